@@ -1,0 +1,15 @@
+pub mod Arithmetic
+pub mod Bits
+pub mod Bitwise
+pub mod Comparisons
+pub mod Equality
+pub mod Fields
+pub mod Literals
+pub mod Logic
+pub mod Numbers
+pub mod Parts
+pub mod Readings
+pub mod Shifts
+pub mod Texts
+pub mod Words
+pub mod WordsBack

@@ -1,0 +1,17 @@
+pub mod Arithmetic
+pub mod Bitwise
+pub mod DecimalLiterals
+pub mod Digits
+pub mod Extending
+pub mod LiteralDigits
+pub mod LiteralReads
+pub mod Literals
+pub mod Logic
+pub mod Numbers
+pub mod Reductions
+pub mod RoundTrips
+pub mod Shifts
+pub mod Signs
+pub mod Texts
+pub mod Widths
+pub mod Words
