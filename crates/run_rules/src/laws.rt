@@ -1,0 +1,5 @@
+pub mod edges;
+pub mod runs;
+pub mod sources;
+pub mod statuses;
+pub mod turns;

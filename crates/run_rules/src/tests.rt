@@ -1,0 +1,17 @@
+use crate::Status;
+
+#[test]
+fn statuses_have_their_numbers(rt: HostRuntime) {
+    for (status, number) in [
+        (Status::Passed, 0),
+        (Status::Words, 2),
+        (Status::Source, 3),
+        (Status::Spent, 7),
+        (Status::ReadFault, 8),
+        (Status::WriteFault, 9),
+        (Status::NoMemory, 10),
+        (Status::TooLong, 12),
+    ] {
+        assert_eq!(rt; status.number(), number);
+    }
+}

@@ -1,0 +1,4 @@
+pub mod Tree
+pub mod Starts
+pub mod Slices
+pub mod Walks

@@ -1,0 +1,24 @@
+-- Types of vectors: how wide they are, and how they are read.
+use Rattle.std.specs.Prelude.{ℕ, Bool, true, false}
+use Rattle.std.proofs.Common.{lit≤}
+use Rattle.vera_ast.specs.declared.typed.types.Width.{Width}
+use Rattle.vera_ast.specs.declared.typed.types.VectorType.{VectorType}
+use Rattle.vera_ast.specs.declared.typed.types.VectorType.TheVariants.{Integer, Bits}
+
+-- the number of bits
+abbrev pub width_of : VectorType → ℕ
+width_of Integer = 32
+width_of (Bits w) = w.bits
+
+-- whether it is read in two's complement
+abbrev pub is_signed : VectorType → Bool
+is_signed Integer = true
+is_signed (Bits w) = false
+
+-- the width of a single bit
+abbrev pub one : Width
+one = record { bits = 1; not_empty = lit≤ tt; within = lit≤ tt }
+
+-- what a comparison gives
+abbrev pub one_bit : VectorType
+one_bit = Bits one

@@ -1,0 +1,52 @@
+ghost use Rattle.std.specs.Prelude.{◌≡◌, ◌≤◌};
+
+/// How many bits a vector has: 1 to 128.
+#[derive(Clone, Copy, Debug, PartialEq, Eq)]
+pub struct Width {
+    pub bits: u8,
+    pub ghost not_empty: { 1 ≤ bits },
+    pub ghost within: { bits ≤ 128 },
+}
+
+impl Width {
+    ghost use Rattle.vera_ast.specs.Types.{one};
+
+    /// The width of a single bit.
+    pub fn one() -> Width
+        ensures { result ≡ one }
+    {
+        Width { bits: 1 }
+    }
+}
+
+/// The type of a vector.
+#[derive(Clone, Copy, Debug, PartialEq, Eq)]
+pub enum VectorType {
+    /// `integer`: 32 bits, read in two's complement and extended by its top bit.
+    Integer,
+    /// `bit` or `reg`: so many bits, read as an unsigned number and extended by 0.
+    Bits(Width),
+}
+
+impl VectorType {
+    ghost use Rattle.vera_ast.specs.Types.{width_of, is_signed};
+
+    /// The number of bits, 1 to 128.
+    pub fn width(self) -> u8
+        ensures value { result ≡ width_of self }
+        ensures not_empty { 1 ≤ result }
+        ensures within { result ≤ 128 }
+    {
+        match self {
+            VectorType::Integer => 32,
+            VectorType::Bits(width) => width.bits,
+        }
+    }
+
+    /// Whether values are read in two's complement.
+    pub fn is_signed(self) -> bool
+        ensures { result ≡ is_signed self }
+    {
+        matches!(self, VectorType::Integer)
+    }
+}

@@ -1,0 +1,136 @@
+-- What a value, and an item that takes a tick, does in given contents: it is the same with any number of ticks.
+use Rattle.std.proofs.Common.{◌≡◌, ℕ, zero, suc, List, [], ◌∷◌, ◌++◌, Option, Some, None, false, if◌then◌else◌, refl, ap, ◌∙◌}
+use Rattle.std.specs.Map.{lookup}
+use Rattle.four_state.specs.declared.bit.Bit.{Bit}
+use Rattle.store_api.specs.Places.{Contents, loc_eq}
+use Rattle.store_api.specs.declared.val.Val.{Val}
+use Rattle.store_api.specs.declared.val.Val.TheVariants.{Bits}
+use Rattle.slice_core.specs.Tree.{Tree, Puts, Emits, Prints, Ends, Spent, Effect}
+use Rattle.slice_core.specs.Slices.{Notes, Writes, on_from, answered, noted}
+use Rattle.vera_ast.specs.declared.typed.expr.TypedExpr.{TypedExpr, end_of-TypedExpr, more_of-TypedExpr, Row_of-TypedLink, end_of-TypedLink, more_of-TypedLink}
+use Rattle.vera_ast.specs.declared.typed.expr.TypedExpr.TheVariants.{Number, Variable, Chain'}
+use Rattle.vera_ast.specs.declared.typed.names.TypedVariable.{TypedVariable}
+use Rattle.vera_ast.specs.declared.typed.stmt.TypedStmt.TheVariants.{Block', Step, While', Printf}
+use Rattle.vera_ast.specs.declared.typed.types.VectorType.{VectorType}
+use Rattle.vera_meaning.specs.Rests.{Item, Do, Again, Rest, nothing_left}
+use Rattle.vera_meaning.specs.Operators.{result_type, fitted, applied, is_true}
+use Rattle.vera_meaning.specs.Formats.{Argument, formatted}
+use Rattle.vera_meaning.specs.Expressions.{place_of, bits_at, type_of, value, chained, arguments, Next}
+use Rattle.vera_meaning.specs.Statements.{Exit, After, Inside, take_item, is_free}
+
+-- the value of an expression in contents behind these notes and writes, and the notes that it leaves
+pub record ValueIn (e : TypedExpr) (c : Contents) (ns : Notes) (ws : Writes) : Type 0 where
+  pub bits : List Bit
+  pub notes : Notes
+  pub same : (ticks : ℕ) (next : Next) (es : List Effect) → on_from (value e ticks next) c ns ws es ≡ on_from (next bits ticks) c notes ws es
+
+record ChainIn {m : _} (links : Row_of-TypedLink m) (ty : VectorType) (first : List Bit) (c : Contents) (ns : Notes) (ws : Writes) : Type 0 where
+  bits : List Bit
+  notes : Notes
+  same : (ticks : ℕ) (next : Next) (es : List Effect) → on_from (chained links ty first ticks next) c ns ws es ≡ on_from (next bits ticks) c notes ws es
+
+variable-in : (v : TypedVariable) (c : Contents) (ns : Notes) (ws : Writes) → ValueIn (Variable v) c ns ws
+variable-in v c ns ws = by (lookup (loc_eq (place_of v.place)) ws) refl
+  where
+    by : (o : Option Val) → lookup (loc_eq (place_of v.place)) ws ≡ o → ValueIn (Variable v) c ns ws
+    by None is = record {
+      bits = bits_at v.of (c (place_of v.place));
+      notes = noted ns (place_of v.place) (c (place_of v.place));
+      same = λ ticks next es. ap (λ (o : Option Val). answered o (λ x. on_from (next (bits_at v.of (Some x)) ticks) c ns ws es) (on_from (next (bits_at v.of (c (place_of v.place))) ticks) c (noted ns (place_of v.place) (c (place_of v.place))) ws es)) is;
+    }
+    by (Some x) is = record {
+      bits = bits_at v.of (Some x);
+      notes = ns;
+      same = λ ticks next es. ap (λ (o : Option Val). answered o (λ x. on_from (next (bits_at v.of (Some x)) ticks) c ns ws es) (on_from (next (bits_at v.of (c (place_of v.place))) ticks) c (noted ns (place_of v.place) (c (place_of v.place))) ws es)) is;
+    }
+
+mutual
+  pub value-in : (e : TypedExpr) (c : Contents) (ns : Notes) (ws : Writes) → ValueIn e c ns ws
+  value-in (Number bits ty) c ns ws = record { bits = bits; notes = ns; same = λ ticks next es. refl }
+  value-in (Variable v) c ns ws = variable-in v c ns ws
+  value-in (Chain' p (more_of-TypedExpr first end_of-TypedExpr) q links) c ns ws =
+      let v = value-in first c ns ws in
+      let w = chained-in links (type_of first) v.bits c v.notes ws in
+      record {
+        bits = w.bits;
+        notes = w.notes;
+        same = λ ticks next es. v.same ticks (λ bits left. chained links (type_of first) bits left next) es ∙ w.same ticks next es;
+      }
+
+  chained-in : {m : _} (links : Row_of-TypedLink m) (ty : VectorType) (first : List Bit) (c : Contents) (ns : Notes) (ws : Writes) → ChainIn links ty first c ns ws
+  chained-in end_of-TypedLink ty first c ns ws = record { bits = first; notes = ns; same = λ ticks next es. refl }
+  chained-in (more_of-TypedLink operator works_in operand links) ty first c ns ws =
+      let v = value-in operand c ns ws in
+      let w = chained-in links (result_type operator works_in) (applied operator works_in (fitted ty works_in first) (fitted (type_of operand) works_in v.bits)) c v.notes ws in
+      record {
+        bits = w.bits;
+        notes = w.notes;
+        same = λ ticks next es.
+            v.same ticks (λ other left. chained links (result_type operator works_in) (applied operator works_in (fitted ty works_in first) (fitted (type_of operand) works_in other)) left next) es
+            ∙ w.same ticks next es;
+      }
+
+record ArgumentsIn (args : List TypedExpr) (c : Contents) (ns : Notes) (ws : Writes) : Type 0 where
+  values : List Argument
+  notes : Notes
+  same : (ticks : ℕ) (next : List Argument → ℕ → Tree Rest) (es : List Effect) → on_from (arguments args ticks next) c ns ws es ≡ on_from (next values ticks) c notes ws es
+
+arguments-in : (args : List TypedExpr) (c : Contents) (ns : Notes) (ws : Writes) → ArgumentsIn args c ns ws
+arguments-in [] c ns ws = record { values = []; notes = ns; same = λ ticks next es. refl }
+arguments-in (e ∷ args) c ns ws =
+    let v = value-in e c ns ws in
+    let w = arguments-in args c v.notes ws in
+    record {
+      values = record { of = type_of e; bits = v.bits } ∷ w.values;
+      notes = w.notes;
+      same = λ ticks next es.
+          v.same ticks (λ bits left. arguments args left (λ rest left'. next (record { of = type_of e; bits = bits } ∷ rest) left')) es
+          ∙ w.same ticks (λ rest left'. next (record { of = type_of e; bits = v.bits } ∷ rest) left') es;
+    }
+
+-- what an item does with its tick
+pub record ItemIn (i : Item) (c : Contents) (ns : Notes) (ws : Writes) (es : List Effect) : Type 0 where
+  pub exit : Exit
+  pub notes : Notes
+  pub writes : Writes
+  pub effects : List Effect
+  pub same : (ticks : ℕ) (next : Exit → ℕ → Tree Rest) → on_from (take_item i (suc ticks) next) c ns ws es ≡ on_from (next exit ticks) c notes writes effects
+
+pub item-in : (i : Item) (c : Contents) (ns : Notes) (ws : Writes) (es : List Effect) → is_free i ≡ false → ItemIn i c ns ws es
+item-in (Do (Block' line decls p stmts)) c ns ws es timed = absurd cc
+item-in (Do (Step s)) c ns ws es timed =
+    let v = value-in s.value c ns ws in
+    record {
+      exit = After;
+      notes = v.notes;
+      writes = _;
+      effects = es;
+      same = λ ticks next. v.same ticks (λ bits left. Puts (place_of s.target.place) (Bits (fitted (type_of s.value) s.target.of bits)) (next After left)) es;
+    }
+item-in (Do (While' line condition p body)) c ns ws es timed = record { exit = Inside; notes = ns; writes = ws; effects = es; same = λ ticks next. refl }
+item-in (Do (Printf p)) c ns ws es timed =
+    let v = arguments-in p.arguments c ns ws in
+    record {
+      exit = After;
+      notes = v.notes;
+      writes = ws;
+      effects = es ++ Prints (formatted p.format v.values) ∷ [];
+      same = λ ticks next. v.same ticks (λ args left. Emits (Prints (formatted p.format args)) (next After left)) es;
+    }
+item-in (Again line condition body) c ns ws es timed =
+    let v = value-in condition c ns ws in
+    record {
+      exit = if is_true v.bits then Inside else After;
+      notes = v.notes;
+      writes = ws;
+      effects = es;
+      same = λ ticks next. v.same ticks (λ bits left. next (if is_true bits then Inside else After) left) es;
+    }
+
+-- without a tick it does nothing
+pub item-spent : (i : Item) (next : Exit → ℕ → Tree Rest) → is_free i ≡ false → take_item i zero next ≡ Ends Spent nothing_left
+item-spent (Do (Block' line decls p stmts)) next timed = absurd cc
+item-spent (Do (Step s)) next timed = refl
+item-spent (Do (While' line condition p body)) next timed = refl
+item-spent (Do (Printf p)) next timed = refl
+item-spent (Again line condition body) next timed = refl

@@ -1,0 +1,10 @@
+pub mod Lists
+pub mod Views
+pub mod Widths
+pub mod StatementViews
+pub mod Fewer
+pub mod Bounds
+pub mod Taken
+pub mod Chains
+pub mod Evaluated
+pub mod Budgets

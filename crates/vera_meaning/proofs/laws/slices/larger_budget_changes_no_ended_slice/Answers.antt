@@ -1,0 +1,5 @@
+use Rattle.vera_meaning.proofs.Budgets.{ended-alike}
+use Rattle.vera_meaning.proofs.laws.slices.larger_budget_changes_no_ended_slice.Goals as goal
+
+pub returns : goal.returns
+returns c = ended-alike

@@ -1,0 +1,5 @@
+pub mod conditions;
+pub mod expressions;
+pub mod slices;
+pub mod statements;
+pub mod while_loops;
