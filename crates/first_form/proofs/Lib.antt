@@ -1,0 +1,17 @@
+pub mod Runs
+pub mod Signs
+pub mod Longest
+pub mod Classes
+pub mod Pieces
+pub mod Found
+pub mod Steps
+pub mod Cutting
+pub mod Law
+pub mod SumLaws
+pub mod StatementLaws
+pub mod Trees
+pub mod Digits
+pub mod Turns
+pub mod NamePlaces
+pub mod Whole
+pub mod OneProgram
