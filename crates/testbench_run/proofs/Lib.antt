@@ -1,0 +1,9 @@
+pub mod Chains
+pub mod Arguments
+pub mod Steps
+pub mod WorkLists
+pub mod Turns
+pub mod Texts
+pub mod Finals
+pub mod Runs
+pub mod Dues

@@ -1,0 +1,11 @@
+pub mod Variables
+pub mod Gives
+pub mod Work
+pub mod Going
+pub mod Next
+pub mod Printing
+pub mod SliceEnds
+pub mod Words
+pub mod Answers
+pub mod Ends
+pub mod Top

@@ -1,0 +1,44 @@
+-- What the top call tells: its status, and what the sink took.
+use Rattle.std.specs.Prelude.{◌≡◌, ◌⊎◌, ℕ, List, Option, Some, None}
+use Rattle.vera_io.specs.Faults.{Rose}
+use Rattle.vera_io.specs.Sink.{taken_more, TookPart}
+use Rattle.run_rules.specs.declared.status.Status.{Status}
+use Rattle.run_rules.specs.declared.status.Status.TheVariants as statuses
+use Rattle.testbench_run.specs.declared.answer.Answer.{Answer}
+use Rattle.testbench_run.specs.Words.{Job}
+use Rattle.testbench_run.specs.Answers.{IsDue}
+
+-- the answer was written whole
+pub record Whole (Due : Answer → Type 0) (before after : Option (List ℕ)) (status : Status) : Type 0 where
+  pub answer : Answer
+  pub due : Due answer
+  pub status_is : status ≡ answer.status
+  pub taken : after ≡ taken_more before answer.text
+
+-- the sink failed within the answer: its count rose, and it took a front of the text
+pub record Part (Due : Answer → Type 0) (faults_before faults_after : ℕ) (before after : Option (List ℕ)) (status : Status) : Type 0 where
+  pub answer : Answer
+  pub due : Due answer
+  pub status_is : status ≡ statuses.WriteFault
+  pub rose : Rose faults_before faults_after
+  pub taken : TookPart before after answer.text
+
+-- there was too little memory, and nothing was written
+pub record Nothing (before after : Option (List ℕ)) (status : Status) : Type 0 where
+  pub status_is : status ≡ statuses.NoMemory
+  pub taken : after ≡ before
+
+abbrev pub Tells : Option Job → (told : List ℕ → Option (List ℕ)) → (old new : List ℕ → ℕ) → (faults_before faults_after : ℕ) → (before after : Option (List ℕ)) → Status → Type 0
+Tells job told old new faults_before faults_after before after status =
+    Whole (IsDue job told old new) before after status
+    ⊎ (Part (IsDue job told old new) faults_before faults_after before after status
+    ⊎ Nothing before after status)
+
+-- the count of the faults of the testbench that is asked for rose
+abbrev pub ReadingRose : Option Job → (old new : List ℕ → ℕ) → Type 0
+ReadingRose None old new = ⊥
+ReadingRose (Some job) old new = Rose (old job.testbench) (new job.testbench)
+
+-- such an answer was written whole, or there was too little memory
+abbrev pub Answers : (Answer → Type 0) → (before after : Option (List ℕ)) → Status → Type 0
+Answers Due before after status = Whole Due before after status ⊎ Nothing before after status
