@@ -1,0 +1,13 @@
+pub mod Joined
+pub mod Covers
+pub mod Grouped
+pub mod Names
+pub mod Indexed
+pub mod Numbered
+pub mod Marks
+pub mod Firsts
+pub mod Directed
+pub mod Clean
+pub mod Kept
+pub mod Placed
+pub mod Made

@@ -1,0 +1,6 @@
+use Rattle.std.proofs.Common.{◌≡◌, take}
+use Rattle.blif_read.specs.Refusals.{each, outputs}
+use Rattle.blif_read.proofs.parts.all_outputs.Given as goal
+
+abbrev pub invariant-loop-block : goal.invariant-loop-block
+invariant-loop-block l = l.found.items ≡ each outputs (take l.block-index l.blocks)

@@ -1,0 +1,12 @@
+pub mod Lines
+pub mod Directives
+pub mod Joining
+pub mod Nets
+pub mod Refusals
+pub mod Netlists
+pub mod Grouping
+pub mod Known
+pub mod Sets
+pub mod Checking
+pub mod Valid
+pub mod Reading
