@@ -1,0 +1,9 @@
+pub mod Values
+pub mod Drivers
+pub mod Paths
+pub mod Origins
+pub mod Fixing
+pub mod Deciding
+pub mod Stepping
+pub mod Starting
+pub mod Marking

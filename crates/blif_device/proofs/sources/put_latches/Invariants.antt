@@ -1,0 +1,11 @@
+use Rattle.std.proofs.Common.{◌≡◌, ◌≢◌, ℕ, ◌<◌, get_or, All}
+use Rattle.blif_read.specs.declared.netlist.Latch as item
+use Rattle.blif_device.specs.declared.sources.Source.TheVariants as source
+use Rattle.blif_device.specs.Sources.{source_at}
+use Rattle.blif_device.proofs.sources.put_latches.Given as goal
+
+abbrev pub invariant-loop-index : goal.invariant-loop-index
+invariant-loop-index l = record {
+  put : (k : ℕ) (d : item.Latch) → k < l.index → source_at l.table (get_or l.latches k d).output ≡ source.Latch k;
+  others : (net : ℕ) → All (λ (x : item.Latch). x.output ≢ net) l.latches → source_at l.table net ≡ source_at l.fn.table net;
+}

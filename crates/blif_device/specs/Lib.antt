@@ -1,0 +1,14 @@
+pub mod Valuations
+pub mod Covers
+pub mod Settled
+pub mod Edges
+pub mod Rings
+pub mod Devices
+pub mod Sources
+pub mod Orders
+pub mod Passes
+pub mod Inside
+pub mod Making
+pub mod Walks
+pub mod Walking
+pub mod Reaching
