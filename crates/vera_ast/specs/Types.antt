@@ -1,5 +1,5 @@
 -- Types of vectors: how wide they are, and how they are read.
-use Rattle.std.specs.Prelude.{ℕ, Bool, true, false}
+use Rattle.std.specs.Prelude.{ℕ, nat_le, Bool, true, false, if◌then◌else◌}
 use Rattle.std.proofs.Common.{lit≤}
 use Rattle.vera_ast.specs.declared.typed.types.Width.{Width}
 use Rattle.vera_ast.specs.declared.typed.types.VectorType.{VectorType}
@@ -22,3 +22,17 @@ one = record { bits = 1; not_empty = lit≤ tt; within = lit≤ tt }
 -- what a comparison gives
 abbrev pub one_bit : VectorType
 one_bit = Bits one
+
+-- the width of an integer
+abbrev pub of_integer : Width
+of_integer = record { bits = 32; not_empty = lit≤ tt; within = lit≤ tt }
+
+abbrev pub wider : Width → Width → Width
+wider v w = if nat_le v.bits w.bits then w else v
+
+-- the type in which an operator between these two works: the wider one's width, and an integer where both are
+abbrev pub common : VectorType → VectorType → VectorType
+common Integer Integer = Integer
+common Integer (Bits w) = Bits (wider of_integer w)
+common (Bits v) Integer = Bits (wider v of_integer)
+common (Bits v) (Bits w) = Bits (wider v w)

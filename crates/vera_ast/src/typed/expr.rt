@@ -1,4 +1,4 @@
-use super::names::TypedVariable;
+use super::names::{TypedSignalName, TypedVariable};
 use super::types::VectorType;
 use four_state::Vec4;
 use sqlite_items::{Boxed, Items};
@@ -23,6 +23,8 @@ pub enum TypedExpr {
     /// A literal with its type.
     Number(Vec4, VectorType),
     Variable(TypedVariable),
+    /// `interface.signal`: the latest sample of an input signal.
+    Sample(TypedSignalName),
     /// Operators of one level: the first operand, and the links that follow it, grouped from the left.
     Chain(Boxed<TypedExpr>, Items<TypedLink>),
 }

@@ -1,3 +1,4 @@
+use super::interface::TypedInterface;
 use super::stmt::TypedBlock;
 use four_state::{List, Text};
 
@@ -9,6 +10,7 @@ pub struct TypedTree {
 
 #[derive(Drop)]
 pub enum TypedItem {
+    Interface(TypedInterface),
     Program(TypedProgram),
 }
 

@@ -1,4 +1,4 @@
-use super::types::VectorType;
+use super::types::{VectorType, Width};
 
 /// Where a variable's value is kept.
 #[derive(Clone, Copy, Debug, PartialEq, Eq)]
@@ -12,4 +12,11 @@ pub enum VariablePlace {
 pub struct TypedVariable {
     pub place: VariablePlace,
     pub of: VectorType,
+}
+
+/// A name that stands for a signal: its number among all signals of the file, from 0 in text order, and its width.
+#[derive(Clone, Copy, Debug, PartialEq, Eq)]
+pub struct TypedSignalName {
+    pub number: u32,
+    pub width: Width,
 }

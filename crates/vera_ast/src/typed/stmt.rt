@@ -1,5 +1,5 @@
 use super::expr::TypedExpr;
-use super::names::TypedVariable;
+use super::names::{TypedSignalName, TypedVariable};
 use four_state::{List, Text};
 use sqlite_items::{Boxed, Items};
 
@@ -26,6 +26,8 @@ pub enum TypedStmt {
     Step(TypedStep),
     While(TypedWhile),
     Printf(TypedPrintf),
+    Drive(TypedDrive),
+    Edge(TypedEdge),
 }
 
 /// A statement that changes a variable: `target = value`.
@@ -59,4 +61,18 @@ pub enum FormatPart {
     Bytes(Text),
     /// `%d` or `%0d`: the decimal number, without a least width.
     Decimal,
+}
+
+/// `interface.signal = value`: a drive of an output signal in the present cycle.
+#[derive(Drop)]
+pub struct TypedDrive {
+    pub line: u32,
+    pub target: TypedSignalName,
+    pub value: TypedExpr,
+}
+
+/// `@(posedge ..)`: the thread waits for the next rising edge of the clock. All edges are those of the one clock.
+#[derive(Clone, Copy, Debug)]
+pub struct TypedEdge {
+    pub line: u32,
 }

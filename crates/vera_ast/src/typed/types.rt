@@ -9,13 +9,25 @@ pub struct Width {
 }
 
 impl Width {
-    ghost use Rattle.vera_ast.specs.Types.{one};
+    ghost use Rattle.vera_ast.specs.Types.{one, of_integer, wider};
 
     /// The width of a single bit.
     pub fn one() -> Width
         ensures { result ≡ one }
     {
         Width { bits: 1 }
+    }
+
+    fn of_integer() -> Width
+        ensures { result ≡ of_integer }
+    {
+        Width { bits: 32 }
+    }
+
+    fn wider(self, other: Width) -> Width
+        ensures { result ≡ wider self other }
+    {
+        if self.bits <= other.bits { other } else { self }
     }
 }
 
@@ -29,7 +41,7 @@ pub enum VectorType {
 }
 
 impl VectorType {
-    ghost use Rattle.vera_ast.specs.Types.{width_of, is_signed};
+    ghost use Rattle.vera_ast.specs.Types.{width_of, is_signed, common};
 
     /// The number of bits, 1 to 128.
     pub fn width(self) -> u8
@@ -48,5 +60,21 @@ impl VectorType {
         ensures { result ≡ is_signed self }
     {
         matches!(self, VectorType::Integer)
+    }
+
+    /// The type in which an operator between two operands works: the wider one's width, and an `integer` where both are.
+    pub fn common(self, other: VectorType) -> VectorType
+        ensures { result ≡ common self other }
+    {
+        match (self, other) {
+            (VectorType::Integer, VectorType::Integer) => VectorType::Integer,
+            (VectorType::Integer, VectorType::Bits(width)) => VectorType::Bits(
+                Width::of_integer().wider(width),
+            ),
+            (VectorType::Bits(width), VectorType::Integer) => VectorType::Bits(width.wider(
+                Width::of_integer(),
+            )),
+            (VectorType::Bits(one), VectorType::Bits(two)) => VectorType::Bits(one.wider(two)),
+        }
     }
 }

@@ -1,0 +1,4 @@
+mod ReservedWords
+pub mod ExprViews
+pub mod StmtViews
+pub mod Lines

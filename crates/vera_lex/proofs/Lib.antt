@@ -1,0 +1,17 @@
+pub mod Digits
+pub mod SignNumbers
+pub mod Gaps
+pub mod States
+pub mod Runs
+pub mod Classes
+pub mod StringEnds
+pub mod CommentEnds
+pub mod SignLengths
+pub mod Fronts
+pub mod Whole
+pub mod Faults
+pub mod Plain
+pub mod Comments
+pub mod NumberPieces
+pub mod NumberFronts
+pub mod OneResult

@@ -1,0 +1,7 @@
+use Rattle.std.proofs.Common.{◌≡◌, drop}
+use Rattle.four_state.specs.Literals.{plain_digits}
+use Rattle.vera_lex.specs.Bytes.{all, is_digit}
+use Rattle.vera_lex.proofs.literals.are_decimal.Given as goal
+
+abbrev pub invariant-loop-digit : goal.invariant-loop-digit
+invariant-loop-digit l = all is_digit (plain_digits (drop l.digit-index l.digits)) ≡ all is_digit (plain_digits l.digits)

@@ -1,0 +1,9 @@
+pub mod Bytes
+pub mod Forms
+pub mod Literals
+pub mod Directives
+pub mod Refusals
+pub mod Tokens
+pub mod Reading
+pub mod Seen
+pub mod Laws
