@@ -1,0 +1,11 @@
+pub mod Words
+pub mod Languages
+pub mod Readers
+pub mod Nesting
+pub mod Answers
+pub mod Lines
+pub mod ExampleGrammar
+pub mod ExampleReading
+pub mod ExampleRows
+pub mod Shared
+pub mod ExampleShared
