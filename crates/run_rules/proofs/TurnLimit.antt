@@ -2,20 +2,21 @@
 use Rattle.std.proofs.Common.{◌≡◌, ◌≢◌, ◌≤◌, nat_le, Bool, true, false, not, ◌&&◌, List, [], ◌∷◌, Option, Some, None, is_some, if◌then◌else◌, refl, sym, ap, ◌∙◌}
 use Rattle.std.proofs.lemmas.Bool.{leb-true, le-leb}
 use Rattle.slice_core.specs.Starts.{Meaning}
+use Rattle.run_rules.specs.Designs.{Design}
 use Rattle.run_rules.specs.States.{State, Entry, Limits, End, SpentTurns}
-use Rattle.run_rules.specs.Moves.{move, moved, turn, limited, is_empty}
+use Rattle.run_rules.specs.Moves.{move, moved, turn, turns_limited, is_empty}
 
-pub move-turn : {R : Type 0} (meaning : Meaning R) (limits : Limits) (s : State R) (e : Entry R) (es : List (Entry R)) → s.ended ≡ None → s.ready ≡ e ∷ es → move meaning limits s ≡ turn meaning limits s e es
-move-turn meaning limits s e es still first = ap (λ o. if is_some o then s else moved meaning limits s s.ready) still ∙ ap (moved meaning limits s) first
+pub move-turn : {R : Type 0} (meaning : Meaning R) (design : Design) (limits : Limits) (s : State R) (e : Entry R) (es : List (Entry R)) → s.ended ≡ None → s.ready ≡ e ∷ es → move meaning design limits s ≡ turn meaning limits s e es
+move-turn meaning design limits s e es still first = ap (λ o. if is_some o then s else moved meaning design limits s s.ready) still ∙ ap (moved meaning design limits s) first
 
 -- the limit, as its two tests have it
 abbrev tested : {R : Type 0} → State R → Bool → List (Entry R) → State R
 tested s many ready = if many && not (is_empty ready) then record s { ended = Some SpentTurns } else s
 
-limited-still : {R : Type 0} (limits : Limits) (s : State R) → s.ended ≡ None → limited limits s ≡ tested s (nat_le limits.turns s.turns) s.ready
+limited-still : {R : Type 0} (limits : Limits) (s : State R) → s.ended ≡ None → turns_limited limits s ≡ tested s (nat_le limits.turns s.turns) s.ready
 limited-still limits s still = ap (λ o. if is_some o then s else tested s (nat_le limits.turns s.turns) s.ready) still
 
-pub limited-spends : {R : Type 0} (limits : Limits) (s : State R) → s.ended ≡ None → (limits.turns ≤ s.turns) × (s.ready ≢ []) → limited limits s ≡ record s { ended = Some SpentTurns }
+pub limited-spends : {R : Type 0} (limits : Limits) (s : State R) → s.ended ≡ None → (limits.turns ≤ s.turns) × (s.ready ≢ []) → turns_limited limits s ≡ record s { ended = Some SpentTurns }
 limited-spends {R} limits s still h =
     limited-still limits s still ∙ (ap (λ b. tested s b s.ready) (le-leb limits.turns s.turns h.0) ∙ by s.ready h.1)
   where
@@ -23,7 +24,7 @@ limited-spends {R} limits s still h =
     by [] some = absurd (some refl)
     by (e ∷ es) some = refl
 
-pub limited-spent : {R : Type 0} (limits : Limits) (s : State R) → s.ended ≡ None → (limited limits s).ended ≡ Some SpentTurns → (limits.turns ≤ s.turns) × (s.ready ≢ [])
+pub limited-spent : {R : Type 0} (limits : Limits) (s : State R) → s.ended ≡ None → (turns_limited limits s).ended ≡ Some SpentTurns → (limits.turns ≤ s.turns) × (s.ready ≢ [])
 limited-spent {R} limits s still spent =
     by (nat_le limits.turns s.turns) s.ready refl refl (sym (ap (λ (x : State R). x.ended) (limited-still limits s still)) ∙ spent)
   where
@@ -32,7 +33,7 @@ limited-spent {R} limits s still spent =
     by true (x ∷ xs) m r e = (leb-true limits.turns s.turns m, λ none. absurd cc)
     by false ready m r e = absurd cc
 
-pub limited-same : {R : Type 0} (limits : Limits) (s : State R) → (limited limits s).ended ≢ Some SpentTurns → limited limits s ≡ s
+pub limited-same : {R : Type 0} (limits : Limits) (s : State R) → (turns_limited limits s).ended ≢ Some SpentTurns → turns_limited limits s ≡ s
 limited-same {R} limits s other = by s.ended (nat_le limits.turns s.turns && not (is_empty s.ready)) other
   where
     given : Option End → Bool → State R

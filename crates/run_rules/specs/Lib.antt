@@ -1,4 +1,9 @@
 pub mod Statuses
+pub mod Drives
+pub mod Nets
+pub mod Fits
+pub mod Links
+pub mod Designs
 pub mod States
 pub mod Moves
 pub mod Runs

@@ -1,4 +1,6 @@
+pub mod drives;
 pub mod edges;
+pub mod nets;
 pub mod runs;
 pub mod sources;
 pub mod statuses;

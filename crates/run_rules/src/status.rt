@@ -9,6 +9,12 @@ pub enum Status {
     Words,
     /// The testbench is refused.
     Source,
+    /// The netlist is refused.
+    Netlist,
+    /// A signal doesn't link to the nets of the netlist.
+    Link,
+    /// The run ended by a fault.
+    Fault,
     /// A slice's budget of ticks, or a cycle's of turns, was spent.
     Spent,
     /// A file could not be read.
@@ -32,6 +38,9 @@ impl Status {
             Status::Passed => 0,
             Status::Words => 2,
             Status::Source => 3,
+            Status::Netlist => 4,
+            Status::Link => 5,
+            Status::Fault => 6,
             Status::Spent => 7,
             Status::ReadFault => 8,
             Status::WriteFault => 9,

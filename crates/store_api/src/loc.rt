@@ -8,6 +8,8 @@ use four_state::NoMemory;
 pub enum Loc {
     /// A program variable: its number, from 0 in text order.
     Global(u32),
+    /// The latest sample of an input signal: the signal's number, from 0 in text order.
+    Sample(u32),
 }
 
 impl Loc {

@@ -12,6 +12,8 @@ fn a_place_is_its_own_alone(rt: HostRuntime) -> Result<(), Fail> {
             "at {one} and {other}"
         );
         assert_eq!(rt; place.copy()?, place);
+        assert_eq!(rt; Loc::Sample(one).is_same(&Loc::Sample(other)), same);
+        assert!(rt; !place.is_same(&Loc::Sample(other)));
     }
     Ok(())
 }

@@ -3,20 +3,22 @@ use Rattle.std.proofs.Common.{◌≡◌, ℕ, zero, suc, List, [], ◌∷◌, �
 use Rattle.std.specs.Map.{lookup}
 use Rattle.four_state.specs.declared.bit.Bit.{Bit}
 use Rattle.store_api.specs.Places.{Contents, loc_eq}
+use Rattle.store_api.specs.declared.loc.Loc.{Loc}
+use Rattle.store_api.specs.declared.loc.Loc.TheVariants as locs
 use Rattle.store_api.specs.declared.val.Val.{Val}
 use Rattle.store_api.specs.declared.val.Val.TheVariants.{Bits}
-use Rattle.slice_core.specs.Tree.{Tree, Puts, Emits, Prints, Ends, Spent, Effect}
+use Rattle.slice_core.specs.Tree.{Tree, Asks, Puts, Emits, Prints, Drives, Ends, Spent, Cycle, Effect}
 use Rattle.slice_core.specs.Slices.{Notes, Writes, on_from, answered, noted}
 use Rattle.vera_ast.specs.declared.typed.expr.TypedExpr.{TypedExpr, end_of-TypedExpr, more_of-TypedExpr, Row_of-TypedLink, end_of-TypedLink, more_of-TypedLink}
-use Rattle.vera_ast.specs.declared.typed.expr.TypedExpr.TheVariants.{Number, Variable, Chain'}
-use Rattle.vera_ast.specs.declared.typed.names.TypedVariable.{TypedVariable}
-use Rattle.vera_ast.specs.declared.typed.stmt.TypedStmt.TheVariants.{Block', Step, While', Printf}
+use Rattle.vera_ast.specs.declared.typed.expr.TypedExpr.TheVariants.{Number, Variable, Sample, Chain'}
+use Rattle.vera_ast.specs.declared.typed.stmt.TypedStmt.TheVariants.{Block', Step, While', Printf, Drive, Edge}
 use Rattle.vera_ast.specs.declared.typed.types.VectorType.{VectorType}
-use Rattle.vera_meaning.specs.Rests.{Item, Do, Again, Rest, nothing_left}
+use Rattle.vera_ast.specs.declared.typed.types.VectorType.TheVariants as types
+use Rattle.vera_meaning.specs.Rests.{Here, Item, Do, Again, Rest, nothing_left}
 use Rattle.vera_meaning.specs.Operators.{result_type, fitted, applied, is_true}
 use Rattle.vera_meaning.specs.Formats.{Argument, formatted}
 use Rattle.vera_meaning.specs.Expressions.{place_of, bits_at, type_of, value, chained, arguments, Next}
-use Rattle.vera_meaning.specs.Statements.{Exit, After, Inside, take_item, is_free}
+use Rattle.vera_meaning.specs.Statements.{Exit, After, Inside, Leaves, take_item, is_free}
 
 -- the value of an expression in contents behind these notes and writes, and the notes that it leaves
 pub record ValueIn (e : TypedExpr) (c : Contents) (ns : Notes) (ws : Writes) : Type 0 where
@@ -29,25 +31,32 @@ record ChainIn {m : _} (links : Row_of-TypedLink m) (ty : VectorType) (first : L
   notes : Notes
   same : (ticks : ℕ) (next : Next) (es : List Effect) → on_from (chained links ty first ticks next) c ns ws es ≡ on_from (next bits ticks) c notes ws es
 
-variable-in : (v : TypedVariable) (c : Contents) (ns : Notes) (ws : Writes) → ValueIn (Variable v) c ns ws
-variable-in v c ns ws = by (lookup (loc_eq (place_of v.place)) ws) refl
+-- a place that an expression of this type asks
+record AskedIn (ty : VectorType) (l : Loc) (c : Contents) (ns : Notes) (ws : Writes) : Type 0 where
+  bits : List Bit
+  notes : Notes
+  same : (ticks : ℕ) (next : Next) (es : List Effect) → on_from (Asks l (λ found. next (bits_at ty found) ticks)) c ns ws es ≡ on_from (next bits ticks) c notes ws es
+
+asked-in : (ty : VectorType) (l : Loc) (c : Contents) (ns : Notes) (ws : Writes) → AskedIn ty l c ns ws
+asked-in ty l c ns ws = by (lookup (loc_eq l) ws) refl
   where
-    by : (o : Option Val) → lookup (loc_eq (place_of v.place)) ws ≡ o → ValueIn (Variable v) c ns ws
+    by : (o : Option Val) → lookup (loc_eq l) ws ≡ o → AskedIn ty l c ns ws
     by None is = record {
-      bits = bits_at v.of (c (place_of v.place));
-      notes = noted ns (place_of v.place) (c (place_of v.place));
-      same = λ ticks next es. ap (λ (o : Option Val). answered o (λ x. on_from (next (bits_at v.of (Some x)) ticks) c ns ws es) (on_from (next (bits_at v.of (c (place_of v.place))) ticks) c (noted ns (place_of v.place) (c (place_of v.place))) ws es)) is;
+      bits = bits_at ty (c l);
+      notes = noted ns l (c l);
+      same = λ ticks next es. ap (λ (o : Option Val). answered o (λ x. on_from (next (bits_at ty (Some x)) ticks) c ns ws es) (on_from (next (bits_at ty (c l)) ticks) c (noted ns l (c l)) ws es)) is;
     }
     by (Some x) is = record {
-      bits = bits_at v.of (Some x);
+      bits = bits_at ty (Some x);
       notes = ns;
-      same = λ ticks next es. ap (λ (o : Option Val). answered o (λ x. on_from (next (bits_at v.of (Some x)) ticks) c ns ws es) (on_from (next (bits_at v.of (c (place_of v.place))) ticks) c (noted ns (place_of v.place) (c (place_of v.place))) ws es)) is;
+      same = λ ticks next es. ap (λ (o : Option Val). answered o (λ x. on_from (next (bits_at ty (Some x)) ticks) c ns ws es) (on_from (next (bits_at ty (c l)) ticks) c (noted ns l (c l)) ws es)) is;
     }
 
 mutual
   pub value-in : (e : TypedExpr) (c : Contents) (ns : Notes) (ws : Writes) → ValueIn e c ns ws
   value-in (Number bits ty) c ns ws = record { bits = bits; notes = ns; same = λ ticks next es. refl }
-  value-in (Variable v) c ns ws = variable-in v c ns ws
+  value-in (Variable v) c ns ws = let a = asked-in v.of (place_of v.place) c ns ws in record { bits = a.bits; notes = a.notes; same = a.same }
+  value-in (Sample s) c ns ws = let a = asked-in (types.Bits s.width) (locs.Sample s.number) c ns ws in record { bits = a.bits; notes = a.notes; same = a.same }
   value-in (Chain' p (more_of-TypedExpr first end_of-TypedExpr) q links) c ns ws =
       let v = value-in first c ns ws in
       let w = chained-in links (type_of first) v.bits c v.notes ws in
@@ -89,16 +98,16 @@ arguments-in (e ∷ args) c ns ws =
     }
 
 -- what an item does with its tick
-pub record ItemIn (i : Item) (c : Contents) (ns : Notes) (ws : Writes) (es : List Effect) : Type 0 where
+pub record ItemIn (here : Here) (i : Item) (c : Contents) (ns : Notes) (ws : Writes) (es : List Effect) : Type 0 where
   pub exit : Exit
   pub notes : Notes
   pub writes : Writes
   pub effects : List Effect
-  pub same : (ticks : ℕ) (next : Exit → ℕ → Tree Rest) → on_from (take_item i (suc ticks) next) c ns ws es ≡ on_from (next exit ticks) c notes writes effects
+  pub same : (ticks : ℕ) (next : Exit → ℕ → Tree Rest) → on_from (take_item here i (suc ticks) next) c ns ws es ≡ on_from (next exit ticks) c notes writes effects
 
-pub item-in : (i : Item) (c : Contents) (ns : Notes) (ws : Writes) (es : List Effect) → is_free i ≡ false → ItemIn i c ns ws es
-item-in (Do (Block' line decls p stmts)) c ns ws es timed = absurd cc
-item-in (Do (Step s)) c ns ws es timed =
+pub item-in : (here : Here) (i : Item) (c : Contents) (ns : Notes) (ws : Writes) (es : List Effect) → is_free i ≡ false → ItemIn here i c ns ws es
+item-in here (Do (Block' line decls p stmts)) c ns ws es timed = absurd cc
+item-in here (Do (Step s)) c ns ws es timed =
     let v = value-in s.value c ns ws in
     record {
       exit = After;
@@ -107,8 +116,8 @@ item-in (Do (Step s)) c ns ws es timed =
       effects = es;
       same = λ ticks next. v.same ticks (λ bits left. Puts (place_of s.target.place) (Bits (fitted (type_of s.value) s.target.of bits)) (next After left)) es;
     }
-item-in (Do (While' line condition p body)) c ns ws es timed = record { exit = Inside; notes = ns; writes = ws; effects = es; same = λ ticks next. refl }
-item-in (Do (Printf p)) c ns ws es timed =
+item-in here (Do (While' line condition p body)) c ns ws es timed = record { exit = Inside; notes = ns; writes = ws; effects = es; same = λ ticks next. refl }
+item-in here (Do (Printf p)) c ns ws es timed =
     let v = arguments-in p.arguments c ns ws in
     record {
       exit = After;
@@ -117,7 +126,17 @@ item-in (Do (Printf p)) c ns ws es timed =
       effects = es ++ Prints (formatted p.format v.values) ∷ [];
       same = λ ticks next. v.same ticks (λ args left. Emits (Prints (formatted p.format args)) (next After left)) es;
     }
-item-in (Again line condition body) c ns ws es timed =
+item-in here (Do (Drive d)) c ns ws es timed =
+    let v = value-in d.value c ns ws in
+    record {
+      exit = After;
+      notes = v.notes;
+      writes = ws;
+      effects = _;
+      same = λ ticks next. v.same ticks (λ bits left. Emits (Drives here.cycle d.target.number (fitted (type_of d.value) (types.Bits d.target.width) bits)) (next After left)) es;
+    }
+item-in here (Do (Edge e)) c ns ws es timed = record { exit = Leaves (Cycle 1); notes = ns; writes = ws; effects = es; same = λ ticks next. refl }
+item-in here (Again line condition body) c ns ws es timed =
     let v = value-in condition c ns ws in
     record {
       exit = if is_true v.bits then Inside else After;
@@ -128,9 +147,11 @@ item-in (Again line condition body) c ns ws es timed =
     }
 
 -- without a tick it does nothing
-pub item-spent : (i : Item) (next : Exit → ℕ → Tree Rest) → is_free i ≡ false → take_item i zero next ≡ Ends Spent nothing_left
-item-spent (Do (Block' line decls p stmts)) next timed = absurd cc
-item-spent (Do (Step s)) next timed = refl
-item-spent (Do (While' line condition p body)) next timed = refl
-item-spent (Do (Printf p)) next timed = refl
-item-spent (Again line condition body) next timed = refl
+pub item-spent : (here : Here) (i : Item) (next : Exit → ℕ → Tree Rest) → is_free i ≡ false → take_item here i zero next ≡ Ends Spent nothing_left
+item-spent here (Do (Block' line decls p stmts)) next timed = absurd cc
+item-spent here (Do (Step s)) next timed = refl
+item-spent here (Do (While' line condition p body)) next timed = refl
+item-spent here (Do (Printf p)) next timed = refl
+item-spent here (Do (Drive d)) next timed = refl
+item-spent here (Do (Edge e)) next timed = refl
+item-spent here (Again line condition body) next timed = refl

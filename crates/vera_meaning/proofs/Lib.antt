@@ -8,3 +8,5 @@ pub mod Taken
 pub mod Chains
 pub mod Evaluated
 pub mod Budgets
+pub mod Driving
+pub mod DrivingViews

@@ -6,17 +6,17 @@ use Rattle.vera_ast.specs.declared.typed.stmt.TypedStmt.{TypedStmt}
 use Rattle.vera_ast.specs.declared.typed.stmt.TypedStmt.TheViews as views
 use Rattle.vera_ast.specs.declared.typed.stmt.TypedStmt.TheBlock.{hidden-the_row-TypedStmt-0 as row, hidden-the_row-TypedStmt-1}
 use Rattle.vera_ast.specs.declared.typed.stmt.TypedWhile.{TypedWhile}
-use Rattle.vera_meaning.specs.Rests.{Item, Do, Again, Rest}
+use Rattle.vera_meaning.specs.Rests.{Here, Item, Do, Again, Rest}
 use Rattle.vera_meaning.specs.Expressions.{tick}
 use Rattle.vera_meaning.specs.Statements.{Exit, Inside, take_stmt, do_all, inside, is_free, stmt_size, stmts_size, size_of}
 
-pub take_stmt-block : (b : TypedBlock) (ticks : ℕ) (next : Exit → ℕ → Tree Rest) → take_stmt (views.Block b) ticks next ≡ next Inside ticks
+pub take_stmt-block : (here : Here) (b : TypedBlock) (ticks : ℕ) (next : Exit → ℕ → Tree Rest) → take_stmt here (views.Block b) ticks next ≡ next Inside ticks
 unfolding Rattle.vera_ast.specs.declared.typed.stmt.TypedStmt.TheViews.roll-TypedStmt denote.Hole.Carrier.roll denote.Hole.Carrier.hidden
-take_stmt-block b ticks next = refl
+take_stmt-block here b ticks next = refl
 
-pub take_stmt-while : (w : TypedWhile) (ticks : ℕ) (next : Exit → ℕ → Tree Rest) → take_stmt (views.While w) ticks next ≡ tick ticks (next Inside)
+pub take_stmt-while : (here : Here) (w : TypedWhile) (ticks : ℕ) (next : Exit → ℕ → Tree Rest) → take_stmt here (views.While w) ticks next ≡ tick ticks (next Inside)
 unfolding Rattle.vera_ast.specs.declared.typed.stmt.TypedStmt.TheViews.roll-TypedStmt denote.Hole.Carrier.roll denote.Hole.Carrier.hidden
-take_stmt-while w ticks next = refl
+take_stmt-while here w ticks next = refl
 
 pub inside-while : (w : TypedWhile) (rest : List Item) → inside (views.While w) rest ≡ Again w.line w.condition w.body ∷ rest
 unfolding Rattle.vera_ast.specs.declared.typed.stmt.TypedStmt.TheViews.roll-TypedStmt Rattle.vera_ast.specs.declared.typed.stmt.TypedStmt.TheBlock.hidden-the_row-TypedStmt-1 denote.Hole.Carrier.roll denote.Hole.Carrier.hidden

@@ -4,3 +4,4 @@ pub mod Formats
 pub mod Expressions
 pub mod Statements
 pub mod Slices
+pub mod Driving

@@ -3,6 +3,11 @@ use Rattle.std.specs.Prelude.{ℕ, List, []}
 use Rattle.vera_ast.specs.declared.typed.expr.TypedExpr.{TypedExpr}
 use Rattle.vera_ast.specs.declared.typed.stmt.TypedStmt.{TypedStmt}
 
+-- where and when a slice runs: its thread's number, and the cycle
+pub record Here : Type 0 where
+  pub thread : ℕ
+  pub cycle : ℕ
+
 -- one thing that is still to do
 pub data Item : Type 0 where
   -- a statement

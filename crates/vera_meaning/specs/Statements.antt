@@ -1,11 +1,13 @@
 -- One thing that is still to do is taken off the list, and replaced by what remains of it.
 use Rattle.std.specs.Prelude.{ℕ, suc, ◌+◌, Bool, true, false, List, [], ◌∷◌, if◌then◌else◌}
 use Rattle.store_api.specs.declared.val.Val.TheVariants.{Bits}
-use Rattle.slice_core.specs.Tree.{Tree, Puts, Emits, Prints}
+use Rattle.slice_core.specs.Tree.{Tree, Puts, Emits, Ends, Prints, Drives, Outcome, Cycle}
 use Rattle.vera_ast.specs.declared.typed.stmt.TypedStmt.{TypedStmt, Row_of-TypedStmt, end_of-TypedStmt, more_of-TypedStmt}
-use Rattle.vera_ast.specs.declared.typed.stmt.TypedStmt.TheVariants.{Block', Step, While', Printf}
+use Rattle.vera_ast.specs.declared.typed.stmt.TypedStmt.TheVariants.{Block', Step, While', Printf, Drive, Edge}
+use Rattle.vera_ast.specs.declared.typed.stmt.TypedDrive.{TypedDrive}
 use Rattle.vera_ast.specs.declared.typed.stmt.TypedStep.{TypedStep}
-use Rattle.vera_meaning.specs.Rests.{Item, Do, Again, Rest}
+use Rattle.vera_ast.specs.declared.typed.types.VectorType.TheVariants as types
+use Rattle.vera_meaning.specs.Rests.{Here, Item, Do, Again, Rest}
 use Rattle.vera_meaning.specs.Operators.{fitted, is_true}
 use Rattle.vera_meaning.specs.Formats.{formatted}
 use Rattle.vera_meaning.specs.Expressions.{tick, place_of, type_of, value, arguments}
@@ -16,23 +18,32 @@ pub data Exit : Type 0 where
   After : Exit
   -- with what it has inside
   Inside : Exit
+  -- behind what was taken off, in another slice: this one ends so
+  Leaves : Outcome Rest → Exit
 
 abbrev pub take_step : TypedStep → ℕ → (ℕ → Tree Rest) → Tree Rest
 take_step s ticks next =
     tick ticks (λ left. value s.value left (λ bits left'. Puts (place_of s.target.place) (Bits (fitted (type_of s.value) s.target.of bits)) (next left')))
 
+-- The value, cut or extended to the signal's width, is to be driven in the present cycle.
+abbrev pub take_drive : Here → TypedDrive → ℕ → (ℕ → Tree Rest) → Tree Rest
+take_drive here d ticks next =
+    tick ticks (λ left. value d.value left (λ bits left'. Emits (Drives here.cycle d.target.number (fitted (type_of d.value) (types.Bits d.target.width) bits)) (next left')))
+
 -- A statement takes a tick at its start; a block takes none.
-abbrev pub take_stmt : TypedStmt → ℕ → (Exit → ℕ → Tree Rest) → Tree Rest
-take_stmt (Block' line decls p stmts) ticks next = next Inside ticks
-take_stmt (Step s) ticks next = take_step s ticks (next After)
-take_stmt (While' line condition p body) ticks next = tick ticks (next Inside)
-take_stmt (Printf p) ticks next =
+abbrev pub take_stmt : Here → TypedStmt → ℕ → (Exit → ℕ → Tree Rest) → Tree Rest
+take_stmt here (Block' line decls p stmts) ticks next = next Inside ticks
+take_stmt here (Step s) ticks next = take_step s ticks (next After)
+take_stmt here (While' line condition p body) ticks next = tick ticks (next Inside)
+take_stmt here (Printf p) ticks next =
     tick ticks (λ left. arguments p.arguments left (λ args left'. Emits (Prints (formatted p.format args)) (next After left')))
+take_stmt here (Drive d) ticks next = take_drive here d ticks (next After)
+take_stmt here (Edge e) ticks next = tick ticks (next (Leaves (Cycle 1)))
 
 -- A loop takes a tick at each test, and goes on exactly where the condition's logical value is 1.
-abbrev pub take_item : Item → ℕ → (Exit → ℕ → Tree Rest) → Tree Rest
-take_item (Do s) ticks next = take_stmt s ticks next
-take_item (Again line condition body) ticks next =
+abbrev pub take_item : Here → Item → ℕ → (Exit → ℕ → Tree Rest) → Tree Rest
+take_item here (Do s) ticks next = take_stmt here s ticks next
+take_item here (Again line condition body) ticks next =
     tick ticks (λ left. value condition left (λ bits left'. next (if is_true bits then Inside else After) left'))
 
 -- statements in front of what is to do
@@ -46,12 +57,21 @@ inside (Block' line decls p stmts) rest = do_all stmts rest
 inside (Step s) rest = rest
 inside (While' line condition p (more_of-TypedStmt body end_of-TypedStmt)) rest = Again line condition body ∷ rest
 inside (Printf p) rest = rest
+inside (Drive d) rest = rest
+inside (Edge e) rest = rest
 
 -- what is to do after an item's exit
 abbrev pub rest_at : Item → List Item → Exit → List Item
 rest_at item rest After = rest
+rest_at item rest (Leaves outcome) = rest
 rest_at (Do s) rest Inside = inside s rest
 rest_at (Again line condition body) rest Inside = Do body ∷ Again line condition body ∷ rest
+
+-- the slice goes on with what is to do, or leaves it to another one
+abbrev pub gone_on : Exit → List Item → Tree Rest → Tree Rest
+gone_on After items on = on
+gone_on Inside items on = on
+gone_on (Leaves outcome) items on = Ends outcome (record { agenda = items })
 
 -- whether an item takes no tick
 abbrev pub is_free : Item → Bool
@@ -59,6 +79,8 @@ is_free (Do (Block' line decls p stmts)) = true
 is_free (Do (Step s)) = false
 is_free (Do (While' line condition p body)) = false
 is_free (Do (Printf p)) = false
+is_free (Do (Drive d)) = false
+is_free (Do (Edge e)) = false
 is_free (Again line condition body) = false
 
 abbrev mutual
@@ -68,6 +90,8 @@ abbrev mutual
   stmt_size (Step s) = 1
   stmt_size (While' line condition p body) = 1
   stmt_size (Printf p) = 1
+  stmt_size (Drive d) = 1
+  stmt_size (Edge e) = 1
 
   pub stmts_size : {m : _} → Row_of-TypedStmt m → ℕ
   stmts_size end_of-TypedStmt = 0

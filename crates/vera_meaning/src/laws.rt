@@ -1,4 +1,5 @@
 pub mod conditions;
+pub mod driving;
 pub mod expressions;
 pub mod slices;
 pub mod statements;

@@ -1,14 +1,17 @@
 ghost use Rattle.std.specs.Prelude.{◌≡◌, ℕ, List, [], ◌∷◌, ◌++◌};
 ghost use Rattle.four_state.specs.declared.bit.Bit.{Bit};
 ghost use Rattle.store_api.specs.Places.{Contents};
+ghost use Rattle.store_api.specs.declared.loc.Loc.TheVariants as locs;
 ghost use Rattle.slice_core.specs.Slices.{Notes, Writes, on_from};
 ghost use Rattle.slice_core.specs.Tree.{Asks, Effect};
 ghost use Rattle.vera_ast.specs.declared.typed.expr.TypedExpr.{TypedExpr};
-ghost use Rattle.vera_ast.specs.declared.typed.expr.TypedExpr.TheVariants.{Number, Variable};
+ghost use Rattle.vera_ast.specs.declared.typed.expr.TypedExpr.TheVariants.{Number, Variable, Sample};
 ghost use Rattle.vera_ast.specs.declared.typed.expr.TypedExpr.TheViews.{Chain};
 ghost use Rattle.vera_ast.specs.declared.typed.expr.TypedLink.{TypedLink};
+ghost use Rattle.vera_ast.specs.declared.typed.names.TypedSignalName.{TypedSignalName};
 ghost use Rattle.vera_ast.specs.declared.typed.names.TypedVariable.{TypedVariable};
 ghost use Rattle.vera_ast.specs.declared.typed.types.VectorType.{VectorType};
+ghost use Rattle.vera_ast.specs.declared.typed.types.VectorType.TheVariants as types;
 ghost use Rattle.vera_meaning.specs.Operators.{fitted, applied, result_type};
 ghost use Rattle.vera_meaning.specs.Expressions.{bits_at, place_of, type_of, value, Next};
 
@@ -22,6 +25,12 @@ pub fn literal_is_its_bits()
 pub fn variable_is_asked_once()
     ensures value { (v : TypedVariable) (ticks : ℕ) (next : Next) → value (Variable v) ticks next ≡ Asks (place_of v.place) (λ found. next (bits_at v.of found) ticks) }
     ensures of { (v : TypedVariable) → type_of (Variable v) ≡ v.of }
+{}
+
+/// An input signal is asked for its latest sample, once, and is a vector of the signal's width without a sign.
+pub fn signal_is_asked_for_its_sample()
+    ensures value { (s : TypedSignalName) (ticks : ℕ) (next : Next) → value (Sample s) ticks next ≡ Asks (locs.Sample s.number) (λ found. next (bits_at (types.Bits s.width) found) ticks) }
+    ensures of { (s : TypedSignalName) → type_of (Sample s) ≡ types.Bits s.width }
 {}
 
 /// The operators of a chain are done from the left to the right: the last works on the value of the chain without
