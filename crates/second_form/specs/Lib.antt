@@ -1,0 +1,16 @@
+pub mod Bytes
+pub mod Words
+pub mod Pieces
+pub mod Tokens
+pub mod Numbers
+pub mod Scope
+pub mod Limits
+pub mod Grammar
+pub mod Interfaces
+pub mod Form
+pub mod Answer
+pub mod Kinds
+pub mod Front
+pub mod Seen
+pub mod Reading
+pub mod Places
