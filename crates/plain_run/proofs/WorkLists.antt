@@ -1,0 +1,47 @@
+-- The evaluator's work list, where its last entry is taken off and a block is opened.
+use Rattle.std.proofs.Common.{◌≡◌, ℕ, suc, ◌<◌, List, [], ◌∷◌, ◌++◌, map, sym, ap, ◌∙◌, subst, arith}
+use Rattle.std.proofs.lemmas.Grind.{common_steps}
+use Rattle.vera_ast.specs.declared.typed.stmt.TypedBlock.{TypedBlock}
+use Rattle.vera_ast.specs.declared.typed.stmt.TypedStmt.TheViews.{Block}
+use Rattle.store_api.specs.Places.{Contents}
+use Rattle.slice_core.specs.Walks.{End}
+use Rattle.vera_meaning.specs.Rests.{Here, Item, Do, Rest}
+use Rattle.vera_meaning.specs.Statements.{size_of}
+use Rattle.vera_meaning.proofs.StatementViews.{size_of-block}
+use Rattle.plain_run.specs.declared.evaluate.work.Work.{Work}
+use Rattle.plain_run.specs.Work.{item_of, agenda_of}
+use Rattle.plain_run.specs.Going.{IsAt, Finds}
+use Rattle.plain_run.specs.Logs.{Told}
+use Rattle.plain_run.proofs.Steps.{opens_block}
+
+-- the last entry comes first
+pub agenda_of-push : (list : List Work) (w : Work) → agenda_of (list ++ w ∷ []) ≡ item_of w ∷ agenda_of list
+agenda_of-push list w = grind (arith, common_steps)
+
+-- what is found where a block is the first entry
+pub record Opened (before after : List Work) : Type 0 where
+  pub smaller : size_of (agenda_of after) < size_of (agenda_of before)
+  pub finds : Finds (agenda_of before) (agenda_of after)
+
+pub block_opened : (before popped after : List Work) (w : Work) (b : TypedBlock) → before ≡ popped ++ w ∷ [] → item_of w ≡ Do (Block b) → agenda_of after ≡ map Do b.stmts ++ agenda_of popped → Opened before after
+block_opened before popped after w b parts is pushed =
+    let first : agenda_of before ≡ Do (Block b) ∷ agenda_of popped = ap agenda_of parts ∙ (agenda_of-push popped w ∙ ap (λ i. i ∷ agenda_of popped) is) in
+    let size : size_of (agenda_of before) ≡ suc (size_of (agenda_of after)) = ap size_of first ∙ (size_of-block b (agenda_of popped) ∙ ap (λ items. suc (size_of items)) (sym pushed)) in
+    record {
+      smaller = omega arith;
+      finds = subst (λ items. Finds items (agenda_of after)) (sym first) (subst (λ items. Finds (Do (Block b) ∷ agenda_of popped) items) (sym pushed) (opens_block b (agenda_of popped)));
+    }
+
+-- an equal item stands first
+pub with_item : (i j : Item) → i ≡ j → (here : Here) (goal : End Rest) (start log : Told) (rest : List Item) (ticks : ℕ) (c : Contents) → IsAt here goal start log (i ∷ rest) ticks c → IsAt here goal start log (j ∷ rest) ticks c
+with_item i j e here goal start log rest ticks c at = subst (λ k. IsAt here goal start log (k ∷ rest) ticks c) e at
+
+-- an entry is pushed
+pub pushed : (before after : List Work) (w : Work) → after ≡ before ++ w ∷ [] → (here : Here) (goal : End Rest) (start log : Told) (ticks : ℕ) (c : Contents) → IsAt here goal start log (item_of w ∷ agenda_of before) ticks c → IsAt here goal start log (agenda_of after) ticks c
+pushed before after w e here goal start log ticks c at =
+    subst (λ items. IsAt here goal start log items ticks c) (sym (ap agenda_of e ∙ agenda_of-push before w)) at
+
+-- an entry was pushed behind the first item
+pub pushed_behind : (before after : List Work) (w : Work) (i : Item) → after ≡ before ++ w ∷ [] → (here : Here) (goal : End Rest) (start log : Told) (ticks : ℕ) (c : Contents) → IsAt here goal start log (i ∷ item_of w ∷ agenda_of before) ticks c → IsAt here goal start log (i ∷ agenda_of after) ticks c
+pushed_behind before after w i e here goal start log ticks c at =
+    subst (λ items. IsAt here goal start log (i ∷ items) ticks c) (sym (ap agenda_of e ∙ agenda_of-push before w)) at

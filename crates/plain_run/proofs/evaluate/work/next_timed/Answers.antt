@@ -1,0 +1,11 @@
+use Rattle.plain_run.proofs.WorkLists.{block_opened}
+use Rattle.plain_run.proofs.evaluate.work.next_timed.Goals as goal
+
+pub loop-work-smaller : goal.loop-work-smaller
+loop-work-smaller c =
+    (block_opened c.loop-work.agenda.items c.pop.new.self.items c.push_all.new.agenda.items c.in-Some.work c.in-Block.block.now c.in-Some.ensures.items c.in-Block.ensures c.in_ok-push_all-in-Block.ensures).smaller
+
+pub loop-work-preserved : goal.loop-work-preserved
+loop-work-preserved c =
+    λ here goal start log ticks contents at.
+    (block_opened c.loop-work.agenda.items c.pop.new.self.items c.push_all.new.agenda.items c.in-Some.work c.in-Block.block.now c.in-Some.ensures.items c.in-Block.ensures c.in_ok-push_all-in-Block.ensures).finds here goal start log ticks contents (c.loop-work.invariant here goal start log ticks contents at)

@@ -1,0 +1,17 @@
+pub mod Values
+pub mod Logs
+pub mod Gives
+pub mod Printing
+pub mod Work
+pub mod Going
+pub mod Next
+pub mod SliceEnds
+pub mod Taking
+pub mod ReadyStates
+pub mod Cycles
+pub mod Outsides
+pub mod Standing
+pub mod Applying
+pub mod Joining
+pub mod Records
+pub mod Begun

@@ -1,0 +1,7 @@
+pub mod expr;
+pub mod log;
+pub mod print;
+pub mod slice;
+pub mod stmt;
+pub mod values;
+pub mod work;
