@@ -1,9 +1,5 @@
-pub mod Chains
-pub mod Arguments
-pub mod Steps
-pub mod WorkLists
-pub mod Turns
 pub mod Texts
-pub mod Finals
-pub mod Runs
+pub mod WordLemmas
+pub mod Ringed
+pub mod Designed
 pub mod Dues

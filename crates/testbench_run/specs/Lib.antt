@@ -1,11 +1,7 @@
-pub mod Variables
-pub mod Gives
-pub mod Work
-pub mod Going
-pub mod Next
-pub mod Printing
-pub mod SliceEnds
 pub mod Words
+pub mod Asking
+pub mod DriveLines
 pub mod Answers
-pub mod Ends
+pub mod Readings
+pub mod Running
 pub mod Top

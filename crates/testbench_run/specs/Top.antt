@@ -34,10 +34,28 @@ Tells job told old new faults_before faults_after before after status =
     ⊎ (Part (IsDue job told old new) faults_before faults_after before after status
     ⊎ Nothing before after status)
 
--- the count of the faults of the testbench that is asked for rose
+-- the count of the faults of the netlist's name rose, where a netlist is named
+abbrev pub NetlistRose : Option (List ℕ) → (old new : List ℕ → ℕ) → Type 0
+NetlistRose None old new = ⊥
+NetlistRose (Some name) old new = Rose (old name) (new name)
+
+-- the count of the faults of a file that is asked for rose
+abbrev pub FileRose : Job → (old new : List ℕ → ℕ) → Type 0
+FileRose job old new = Rose (old job.testbench) (new job.testbench) ⊎ NetlistRose job.netlist old new
+
 abbrev pub ReadingRose : Option Job → (old new : List ℕ → ℕ) → Type 0
 ReadingRose None old new = ⊥
-ReadingRose (Some job) old new = Rose (old job.testbench) (new job.testbench)
+ReadingRose (Some job) old new = FileRose job old new
+
+-- the shelf tells these bytes of the netlist, where one is named
+abbrev pub TellsNetlist : Option (List ℕ) → (told : List ℕ → Option (List ℕ)) → List ℕ → Type 0
+TellsNetlist None told bytes = Unit {0}
+TellsNetlist (Some name) told bytes = told name ≡ Some bytes
+
+-- the shelf tells these bytes of the files that are asked for
+pub record TellsFiles (job : Job) (told : List ℕ → Option (List ℕ)) (source netlist : List ℕ) : Type 0 where
+  pub of_testbench : told job.testbench ≡ Some source
+  pub of_netlist : TellsNetlist job.netlist told netlist
 
 -- such an answer was written whole, or there was too little memory
 abbrev pub Answers : (Answer → Type 0) → (before after : Option (List ℕ)) → Status → Type 0

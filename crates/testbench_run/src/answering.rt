@@ -1,61 +1,63 @@
-ghost use Rattle.std.specs.Prelude.{◌≡◌, ◌≤◌, ◌⊎◌, ℕ, List, length, map, IfOk};
+//! From the words to the answer.
+ghost use Rattle.std.specs.Prelude.{◌≡◌, ◌≤◌, ℕ, List, length, map, IfOk, Some, option_map};
+ghost use Rattle.testbench_run.specs.Asking.{asked_job};
 ghost use Rattle.testbench_run.specs.Words.{job_of};
-ghost use Rattle.testbench_run.specs.Answers.{IsDue, AnswersBytes};
+ghost use Rattle.testbench_run.specs.Answers.{IsDue};
+ghost use Rattle.testbench_run.specs.Readings.{IsDueBehind};
 
 use crate::answer::Answer;
-use crate::run::run;
-use crate::words::testbench_name;
-use first_form::{FormError, read_first_form};
-use four_state::{NoMemory, Text};
+use crate::files::files_answer;
+use crate::reading::{FILE_LIMIT, FileRead, read_file};
+use crate::refusals::line_answer;
+use crate::words::{Asked, asked_by};
+use four_state::NoMemory;
 use run_rules::Status;
 use std::alloc::Global;
-use vera_io::{ReadAll, Shelf, read_all};
+use vera_io::Shelf;
 
-/// How many bytes a file may have.
-const FILE_LIMIT: u64 = 4_194_304;
-
-/// The answer to the words: they are looked at first, then the testbench is read, and then it is run.
+/// The answer to the words: they are looked at first, then the files are read, and then the testbench is run.
 pub fn answer_to<S: Shelf>(alloc: Global, words: &[&str], shelf: &mut S) -> Result<Answer, NoMemory>
     ensures due { IfOk result (IsDue (job_of (map (λ word. word.now) words.now)) (S.bytes_of shelf.old) (S.faults_of shelf.old) (S.faults_of shelf.new)) }
     ensures counts { (name : List ℕ) → S.faults_of shelf.old name ≤ S.faults_of shelf.new name }
 {
-    match testbench_name(words) {
-        None => error_answer(alloc, Status::Words, b"error words\n"),
-        Some(name) => match read_all(alloc, shelf, name.as_bytes(), FILE_LIMIT) {
-            Ok(bytes) => bytes_answer(alloc, bytes.as_slice()),
-            Err(ReadAll::Failed) => error_answer(
-                alloc,
-                Status::ReadFault,
-                b"error read testbench\n",
-            ),
-            Err(ReadAll::TooLong) => error_answer(
-                alloc,
-                Status::TooLong,
-                b"error long testbench\n",
-            ),
-            Err(ReadAll::NoMemory) => Err(NoMemory),
+    match asked_by(words) {
+        None => line_answer(alloc, Status::Words, b"error words\n"),
+        Some(asked) => job_answer(alloc, &asked, shelf),
+    }
+}
+
+/// The answer to what is asked for: the testbench is read before the netlist.
+fn job_answer<S: Shelf>(alloc: Global, asked: &Asked, shelf: &mut S) -> Result<Answer, NoMemory>
+    ensures due { IfOk result (IsDue (Some (asked_job asked.now)) (S.bytes_of shelf.old) (S.faults_of shelf.old) (S.faults_of shelf.new)) }
+    ensures counts { (name : List ℕ) → S.faults_of shelf.old name ≤ S.faults_of shelf.new name }
+{
+    match read_file(alloc, shelf, asked.testbench, b"testbench")? {
+        FileRead::Refused(answer) => Ok(answer),
+        FileRead::Bytes(source) => {
+            behind_testbench(alloc, source.as_slice(), asked.netlist, asked.cycles, shelf)
+        }
+    }
+}
+
+/// The answer behind a testbench of these bytes: the netlist is read, where one is named.
+fn behind_testbench<S: Shelf>(
+    alloc: Global,
+    source: &[u8],
+    netlist: Option<&str>,
+    cycles: u64,
+    shelf: &mut S,
+) -> Result<Answer, NoMemory>
+    requires { length source.now ≤ FILE_LIMIT }
+    ensures due { IfOk result (IsDueBehind (option_map (λ name. name.now) netlist.entry) cycles source.now (S.bytes_of shelf.old) (S.faults_of shelf.old) (S.faults_of shelf.new)) }
+    ensures counts { (name : List ℕ) → S.faults_of shelf.old name ≤ S.faults_of shelf.new name }
+{
+    match netlist {
+        None => files_answer(alloc, source, None, cycles),
+        Some(name) => match read_file(alloc, shelf, name, b"netlist")? {
+            FileRead::Refused(answer) => Ok(answer),
+            FileRead::Bytes(netlist) => {
+                files_answer(alloc, source, Some(netlist.as_slice()), cycles)
+            }
         },
     }
-}
-
-/// The answer to the bytes of a testbench.
-fn bytes_answer(alloc: Global, bytes: &[u8]) -> Result<Answer, NoMemory>
-    requires { length bytes.now ≤ FILE_LIMIT }
-    ensures { IfOk result (AnswersBytes bytes.now) }
-{
-    match read_first_form(alloc, bytes) {
-        Ok(tree) => run(alloc, &tree),
-        Err(FormError::OtherForm) => error_answer(alloc, Status::Source, b"error E90 line 1\n"),
-        Err(FormError::NoMemory) => Err(NoMemory),
-    }
-}
-
-/// An answer of one line.
-fn error_answer(alloc: Global, status: Status, line: &[u8]) -> Result<Answer, NoMemory>
-    ensures { IfOk result (λ answer. answer ≡ record { status = status; text = line.now }) }
-{
-    Ok(Answer {
-        status,
-        text: Text::from_slice(alloc, line)?,
-    })
 }

@@ -3,11 +3,16 @@
 
 mod answer;
 mod answering;
-mod evaluate;
+mod files;
+mod linked;
+mod reading;
+mod refusals;
 mod report;
-mod run;
 mod top;
 mod words;
 
 pub use run_rules::Status;
 pub use top::top_plain;
+
+#[cfg(test)]
+mod tests;

@@ -1,19 +1,24 @@
 ghost use Rattle.std.specs.Prelude.{◌≡◌, ℕ, List, Some, None, map};
 ghost use Rattle.vera_io.specs.Faults.{Rose};
 ghost use Rattle.testbench_run.specs.Words.{Job, job_of};
-ghost use Rattle.testbench_run.specs.Answers.{AnswersBytes, words_answer};
-ghost use Rattle.testbench_run.specs.Top.{Tells, Answers, ReadingRose};
+ghost use Rattle.testbench_run.specs.Answers.{IsAnswer, ReadBytes, words_answer};
+ghost use Rattle.testbench_run.specs.Top.{Tells, Answers, ReadingRose, FileRose, TellsFiles};
 
 use crate::answering::answer_to;
 use run_rules::Status;
 use std::alloc::Global;
 use vera_io::{Shelf, Sink, write_all};
 
-/// Does what the words ask for: it reads the testbench from the shelf, runs it, and writes its report, or the line
-/// that says why there is none, to the sink.
+/// Does what the words ask for: it reads the testbench and, where one is named, the netlist from the shelf, runs the
+/// testbench against it, and writes the report, or the line that says why there is none, to the sink.
 ///
-/// Words that ask for nothing give `Words`; a testbench of more than 4,194,304 bytes gives `TooLong`; one that isn't
-/// of the form that is built gives `Source`; a run whose budget is spent gives `Spent`; another one `Passed`.
+/// Steps go in this order, and the first that refuses is told. Words that ask for nothing give `Words`. A file that
+/// can't be read gives `ReadFault`, and one of more than 4,194,304 bytes `TooLong`: the testbench is read before the
+/// netlist, and both before anything is said of what they hold. A testbench that isn't of the form that is built gives
+/// `Source`; a netlist that isn't in BLIF, or has a ring of nets, `Netlist`; a signal that doesn't link to the netlist
+/// `Link`. A run that ends by a fault gives `Fault`, one whose budget of ticks or of slices is spent `Spent`, and
+/// another one `Passed`. A sink that fails gives `WriteFault` in place of each of these, and has taken a front of the
+/// text; want of memory gives `NoMemory`, and nothing is written.
 pub fn top_plain<S: Shelf, K: Sink>(
     alloc: Global,
     words: &[&str],
@@ -33,9 +38,10 @@ pub fn top_plain<S: Shelf, K: Sink>(
     // Where no count rose, the answer is written whole, or memory was wanting.
     ensures other_words { job_of (map (λ word. word.now) words.now) ≡ None → ¬ (Rose (K.faults out.old) (K.faults out.new))
         → Answers (λ answer. answer ≡ words_answer) (K.bytes_taken out.old) (K.bytes_taken out.new) result }
-    ensures complete { (job : Job) (file : List ℕ) → job_of (map (λ word. word.now) words.now) ≡ Some job → S.bytes_of shelf.old job.testbench ≡ Some file
-        → ¬ (Rose (S.faults_of shelf.old job.testbench) (S.faults_of shelf.new job.testbench)) → ¬ (Rose (K.faults out.old) (K.faults out.new))
-        → Answers (AnswersBytes file) (K.bytes_taken out.old) (K.bytes_taken out.new) result }
+    ensures complete { (job : Job) (source netlist : List ℕ) → job_of (map (λ word. word.now) words.now) ≡ Some job
+        → TellsFiles job (S.bytes_of shelf.old) source netlist → ¬ (FileRose job (S.faults_of shelf.old) (S.faults_of shelf.new))
+        → ¬ (Rose (K.faults out.old) (K.faults out.new))
+        → Answers (IsAnswer (Some job) (ReadBytes source) (ReadBytes netlist)) (K.bytes_taken out.old) (K.bytes_taken out.new) result }
 {
     match answer_to(alloc, words, shelf) {
         Err(_) => Status::NoMemory,

@@ -30,7 +30,16 @@ fn other_words_are_refused(rt: HostRuntime) -> Result<(), Fail> {
         "plain tb.vr --workers",
         "plain tb.vr --workers 2",
         "plain tb.vr --cycles=1000001",
-        "plain tb.vr tb.vr",
+        "plain tb.vr --cycles",
+        "plain tb.vr --cycles 1000001",
+        "plain tb.vr --cycles 00000000001",
+        "plain tb.vr --cycles x",
+        "plain tb.vr --cycles -1",
+        "plain tb.vr --cycle 1",
+        "plain --cycles 1 tb.vr",
+        "plain tb.vr n.blif more.blif",
+        "plain tb.vr n.blif --cycles 1 --cycles 1",
+        "plain tb.vr -n.blif",
     ] {
         refuses(&rt, text)?;
     }

@@ -32,6 +32,31 @@ pub fn run_into(
     })
 }
 
+/// Runs words on a shelf with two files, `tb.vr` and `n.blif`.
+pub fn run_against(
+    alloc: Global,
+    words: &[&str],
+    source: &str,
+    netlist: &str,
+) -> Result<Done, NoMemory> {
+    let mut files = Vec::new(alloc);
+    files.push((
+        Text::from_slice(alloc, b"tb.vr")?,
+        Vec::from_slice(alloc, source.as_bytes())?,
+    ))?;
+    files.push((
+        Text::from_slice(alloc, b"n.blif")?,
+        Vec::from_slice(alloc, netlist.as_bytes())?,
+    ))?;
+    let mut shelf = MemoryShelf::new(files, Vec::new(alloc));
+    let mut sink = MemorySink::new(alloc, ROOM, ROOM, Vec::new(alloc))?;
+    let status = top_plain(alloc, words, &mut shelf, &mut sink);
+    Ok(Done {
+        status,
+        taken: Vec::from_slice(alloc, sink.taken())?,
+    })
+}
+
 /// Runs words on a shelf with one file, `tb.vr`.
 pub fn run_words(alloc: Global, words: &[&str], source: &str) -> Result<Done, NoMemory> {
     let source = Vec::from_slice(alloc, source.as_bytes())?;
