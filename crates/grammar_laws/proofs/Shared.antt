@@ -6,8 +6,8 @@ use Rattle.grammar_laws.specs.Languages.{Lang, sequence, choice, maybe}
 use Rattle.grammar_laws.proofs.Regroup.{Into, assoc_to, assoc_back, maybe_to, maybe_back, spread_to, spread_back, inside, share_to, then_into, into_left, into_right, both_into, pure_to, pure_back, same_into}
 
 module _ (T X S K D W M P R : Type 0)
-    (post free : Lang T X) (step_tail : X → Lang T S) (after_step : S → Lang T R) (call_tail drive_plain : X → Lang T R) (drive_at : D → X → Lang T R)
-    (at others : Lang T K) (paren : Lang T P) (edge_tail : P → Lang T R) (simple : Lang T D) (paren_delay : P → Lang T D) (comma_delay : Lang T D) (window_of : K → D → Option D → W)
+    (post free : Lang T X) (step_tail : X → Lang T S) (after_step : S → Lang T R) (call_tail drive_plain : X → Lang T R) (drive_at : K → D → X → Lang T R)
+    (at others : Lang T K) (paren : Lang T P) (edge_tail : K → P → Lang T R) (simple : Lang T D) (paren_delay : P → Lang T D) (comma_delay : Lang T D) (window_of : K → D → Option D → W)
     (soft : Lang T P) (term_tail : X → Lang T M) (expect_rest : Option W → Option P → M → Lang T R) where
   abbrev post_of : Option W → Option P → Lang T X
   post_of = s.post_of T X S K D W M P R post free step_tail after_step call_tail drive_plain drive_at at others paren edge_tail simple paren_delay comma_delay window_of soft term_tail expect_rest
@@ -132,11 +132,11 @@ module _ (T X S K D W M P R : Type 0)
       (both_into _ _ _ (into_right _ _ _ (into_left _ _ _ (same_into _))) (into_left _ _ _ (inside free _ _ (λ x. into_right _ _ _ (same_into _)))))
       (into_right _ _ _ (into_right _ _ _ (same_into _)))
 
-  drive_timed : (k : K) (d : D) → Into (sequence free (drive_at d)) (timed k d)
+  drive_timed : (k : K) (d : D) → Into (sequence free (drive_at k d)) (timed k d)
   unfolding s.timed
   drive_timed k d = into_left _ _ _ (inside free _ _ (λ x. into_left _ _ _ (same_into _)))
 
-  timed_from : (k : K) (d : D) → Into (timed k d) (choice (sequence free (drive_at d)) (windowed k d))
+  timed_from : (k : K) (d : D) → Into (timed k d) (choice (sequence free (drive_at k d)) (windowed k d))
   unfolding s.windowed s.timed s.any_term s.plain_term
   timed_from k d = both_into _ _ _
       (then_into _ _ _ (share_to free _ _) (both_into _ _ _ (into_left _ _ _ (same_into _)) (into_right _ _ _ (into_left _ _ _ (into_right _ _ _ (same_into _))))))
@@ -150,7 +150,7 @@ module _ (T X S K D W M P R : Type 0)
       (into_left _ _ _ (inside simple _ _ into))
       (into_right _ _ _ (then_into _ _ _ (assoc_to paren paren_delay f) (inside paren _ _ (λ t. into_right _ _ _ (inside (paren_delay t) _ _ into))))))
 
-  at_from : (k : K) → Into (begun_by_at k) (choice (sequence paren edge_tail) (sequence delay (timed k)))
+  at_from : (k : K) → Into (begun_by_at k) (choice (sequence paren (edge_tail k)) (sequence delay (timed k)))
   unfolding s.delay s.begun_by_at
   at_from k = both_into _ _ _
       (into_right _ _ _ (then_into _ _ _ (into_left _ _ _ (same_into _)) (spread_back simple (sequence paren paren_delay) (timed k))))

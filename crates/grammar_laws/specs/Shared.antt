@@ -4,8 +4,8 @@ use Rattle.std.specs.Prelude.{Option, Some, None}
 use Rattle.grammar_laws.specs.Languages.{Lang, sequence, choice, pure, maybe}
 
 module _ (T X S K D W M P R : Type 0)
-    (post free : Lang T X) (step_tail : X → Lang T S) (after_step : S → Lang T R) (call_tail drive_plain : X → Lang T R) (drive_at : D → X → Lang T R)
-    (at others : Lang T K) (paren : Lang T P) (edge_tail : P → Lang T R) (simple : Lang T D) (paren_delay : P → Lang T D) (comma_delay : Lang T D) (window_of : K → D → Option D → W)
+    (post free : Lang T X) (step_tail : X → Lang T S) (after_step : S → Lang T R) (call_tail drive_plain : X → Lang T R) (drive_at : K → D → X → Lang T R)
+    (at others : Lang T K) (paren : Lang T P) (edge_tail : K → P → Lang T R) (simple : Lang T D) (paren_delay : P → Lang T D) (comma_delay : Lang T D) (window_of : K → D → Option D → W)
     (soft : Lang T P) (term_tail : X → Lang T M) (expect_rest : Option W → Option P → M → Lang T R) where
   -- a postfix expression at the start of a statement is `post`, and elsewhere `free`
   abbrev pub post_of : Option W → Option P → Lang T X
@@ -26,7 +26,7 @@ module _ (T X S K D W M P R : Type 0)
 
   -- at "(" "posedge" ..
   unfoldable pub edge_stmt : Lang T R
-  edge_stmt = sequence at (λ k. sequence paren edge_tail)
+  edge_stmt = sequence at (λ k. sequence paren (edge_tail k))
 
   -- number | name | "(" expr ")"
   unfoldable pub delay : Lang T D
@@ -34,7 +34,7 @@ module _ (T X S K D W M P R : Type 0)
 
   -- at delay free .. | post ..
   unfoldable pub drive_stmt : Lang T R
-  drive_stmt = choice (sequence at (λ k. sequence delay (λ d. sequence free (drive_at d)))) (sequence post drive_plain)
+  drive_stmt = choice (sequence at (λ k. sequence delay (λ d. sequence free (drive_at k d)))) (sequence post drive_plain)
 
   -- ( at | others ) delay [ "," delay ]
   unfoldable pub window : Lang T W
@@ -67,11 +67,11 @@ module _ (T X S K D W M P R : Type 0)
 
   -- what follows a delay
   unfoldable pub timed : K → D → Lang T R
-  timed k d = choice (sequence free (λ x. choice (drive_at d x) (sequence (term_tail x) (expect_rest (Some (window_of k d None)) None))))
+  timed k d = choice (sequence free (λ x. choice (drive_at k d x) (sequence (term_tail x) (expect_rest (Some (window_of k d None)) None))))
       (choice (soft_term (Some (window_of k d None))) (sequence comma_delay (λ e. any_term (window_of k d (Some e)))))
 
   unfoldable pub begun_by_at : K → Lang T R
-  begun_by_at k = choice (sequence simple (timed k)) (sequence paren (λ t. choice (edge_tail t) (sequence (paren_delay t) (timed k))))
+  begun_by_at k = choice (sequence simple (timed k)) (sequence paren (λ t. choice (edge_tail k t) (sequence (paren_delay t) (timed k))))
 
   unfoldable pub windowed : K → D → Lang T R
   windowed k d = choice (any_term (window_of k d None)) (sequence comma_delay (λ e. any_term (window_of k d (Some e))))
