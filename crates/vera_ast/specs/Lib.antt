@@ -1,7 +1,9 @@
 pub mod Types
+pub mod ExprTypes
 pub mod Signals
 pub mod Words
 pub mod Codes
 pub mod Slots
 pub mod Lines
+pub mod TypedLines
 pub mod Signs

@@ -1,5 +1,6 @@
 mod codes;
 mod trees;
+mod typed;
 
 use crate::{VectorType, Width};
 

@@ -29,4 +29,8 @@ pub enum TypedSignalKind {
     PositiveHold,
     /// `PSAMPLE`: sampled at the rising edge.
     PositiveSample,
+    /// `NHOLD`: driven at the falling edge. No source gives it yet.
+    NegativeHold,
+    /// `NSAMPLE`: sampled at the falling edge. No source gives it yet.
+    NegativeSample,
 }

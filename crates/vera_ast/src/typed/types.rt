@@ -78,3 +78,54 @@ impl VectorType {
         }
     }
 }
+
+/// The type of a value.
+#[derive(Clone, Copy, Debug, PartialEq, Eq)]
+pub enum ValueType {
+    Vector(VectorType),
+    Str,
+    Event,
+    Enumeration(u32),
+    /// An object of this class or of a descendant, or `null`.
+    Class(u32),
+    /// An instance of a coverage group.
+    Group(u32),
+    /// `null` itself.
+    Null,
+}
+
+impl ValueType {
+    ghost use Rattle.vera_ast.specs.Types.{vector_of};
+
+    /// The type in which an operator reads a value of this type: an enumeration is an `integer` there. `None` where it
+    /// is no vector.
+    pub fn vector(self) -> Option<VectorType>
+        ensures { result ≡ vector_of self }
+    {
+        match self {
+            ValueType::Vector(of) => Some(of),
+            ValueType::Enumeration(_) => Some(VectorType::Integer),
+            ValueType::Str
+            | ValueType::Event
+            | ValueType::Class(_)
+            | ValueType::Group(_)
+            | ValueType::Null => None,
+        }
+    }
+}
+
+/// The type of a variable: that of its value, or an array of elements of a type.
+#[derive(Clone, Copy, Debug, PartialEq, Eq)]
+pub enum VariableType {
+    Value(ValueType),
+    Array(ValueType, ArrayLength),
+}
+
+/// Which elements an array has.
+#[derive(Clone, Copy, Debug, PartialEq, Eq)]
+pub enum ArrayLength {
+    /// So many, 1 to 65,536, numbered from 0.
+    Fixed(u32),
+    /// Elements by key. No source gives it yet.
+    Keys,
+}
