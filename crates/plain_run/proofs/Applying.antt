@@ -6,8 +6,6 @@ use Rattle.std.proofs.lemmas.List.{get_or-set_same}
 use Rattle.std.proofs.lemmas.Option.{slice_get_within, slice_get-get_or, get_or_from_slice_get}
 use Rattle.four_state.specs.declared.bit.Bit.{Bit}
 use Rattle.four_state.specs.declared.bit.Bit3.{Bit3}
-use Rattle.vera_ast.specs.declared.typed.interface.TypedSignalKind.{TypedSignalKind}
-use Rattle.vera_ast.specs.declared.typed.interface.TypedSignalKind.TheVariants.{Clock, PositiveHold, PositiveSample}
 use Rattle.vera_ast.specs.declared.tree.interfaces.Direction.TheVariants.{Output}
 use Rattle.vera_ast.specs.declared.typed.interface.TypedSignal.{TypedSignal}
 use Rattle.vera_ast.specs.Signals.{NamedSignal}
@@ -21,7 +19,7 @@ use Rattle.run_rules.specs.Links.{LinksAs, IsDrivable}
 use Rattle.run_rules.specs.Nets.{nets_of, driven_nets, put_bits}
 use Rattle.run_rules.proofs.DrivenNets.{driving_all}
 use Rattle.run_rules.proofs.Fitting.{meet_fits, value_fits}
-use Rattle.run_rules.proofs.LinkedNets.{linked}
+use Rattle.run_rules.proofs.LinkedNets.{drivable, linked}
 use Rattle.run_rules.proofs.Meetings.{first_drive, meeting_drive, given_this, given_others}
 use Rattle.run_rules.proofs.SignalNets.{many}
 use Rattle.signal_link.specs.declared.linking.SignalNets.{SignalNets}
@@ -66,11 +64,6 @@ signal_below signals n bits fits = slice_get_within signals n fits.named fits.is
 -- its nets stand at its number
 pub signal_at : (names : List (List ℕ)) (signals : List NamedSignal) (all : List SignalNets) (n : ℕ) (s : NamedSignal) (found : SignalNets) → AreNetsOf names signals all → slice_get signals n ≡ Some s → found ≡ get_or all n found → found ≡ signal_nets names s.signal
 signal_at names signals all n s found are is at = at ∙ get_or_from_slice_get all n (signal_nets names s.signal) found (are.each n s is)
-
-drivable : (p : Parts) (s : TypedSignal) (kind : TypedSignalKind) → LinksAs p s kind Output → All (IsDrivable p) (nets_of p.nets s)
-drivable p s Clock links = links
-drivable p s PositiveHold links = links
-drivable p s PositiveSample links = links
 
 module _
     (o : Outside) (design : Design) (driven : Driven) (held : List Bit3) (n : ℕ) (bits : List Bit)

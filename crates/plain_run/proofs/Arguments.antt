@@ -8,7 +8,8 @@ use Rattle.slice_core.specs.Walks.{walked_from}
 use Rattle.vera_ast.specs.declared.typed.expr.TypedExpr.{TypedExpr}
 use Rattle.vera_meaning.specs.Rests.{Rest}
 use Rattle.vera_meaning.specs.Formats.{Argument}
-use Rattle.vera_meaning.specs.Expressions.{type_of, arguments}
+use Rattle.vera_ast.specs.ExprTypes.{type_of}
+use Rattle.vera_meaning.specs.Expressions.{arguments}
 use Rattle.plain_run.specs.declared.evaluate.expr.Typed.{Typed}
 use Rattle.plain_run.specs.Gives.{Gives}
 use Rattle.plain_run.specs.Printing.{argument_of, GivesAll}

@@ -15,3 +15,4 @@ pub mod Beginning
 pub mod Runs
 pub mod ApplyingAll
 pub mod Ran
+mod Places

@@ -1,66 +1,69 @@
 -- The steps of a slice's walk.
-use Rattle.std.proofs.Common.{◌≡◌, ℕ, zero, suc, ◌<◌, ◌≤◌, List, [], ◌∷◌, ◌++◌, map, Bool, true, false, cond, if◌then◌else◌, refl, sym, ap, ◌∙◌, subst, arith}
+use Rattle.std.proofs.Common.{◌≡◌, ◌≢◌, ℕ, zero, suc, ◌<◌, ◌≤◌, List, [], ◌∷◌, ◌++◌, map, Option, Some, None, Bool, true, false, cond, if◌then◌else◌, refl, sym, ap, ◌∙◌, subst, arith}
 use Rattle.four_state.specs.declared.bit.Bit.{Bit}
-use Rattle.four_state.specs.Bits.{extended}
 use Rattle.store_api.specs.Places.{Contents}
-use Rattle.store_api.specs.declared.val.Val.TheVariants.{Bits}
-use Rattle.slice_core.specs.Tree.{Tree, Effect, Prints, Drives, Puts, Emits, Ends, Spent}
-use Rattle.slice_core.specs.Walks.{End, walked, walked_from, put_at}
+use Rattle.store_api.specs.declared.loc.Loc.{Loc}
+use Rattle.slice_core.specs.Tree.{Tree, Effect, Prints, Drives, Emits, Ends, Spent}
+use Rattle.slice_core.specs.Walks.{End, walked, walked_from}
 use Rattle.vera_ast.specs.declared.typed.expr.TypedExpr.{TypedExpr}
-use Rattle.vera_ast.specs.declared.typed.stmt.FormatPart.{FormatPart}
-use Rattle.vera_ast.specs.declared.typed.stmt.TypedBlock.{TypedBlock}
+use Rattle.vera_ast.specs.declared.typed.format.FormatPart.{FormatPart}
+use Rattle.vera_ast.specs.declared.typed.names.TypedVariable.{TypedVariable}
+use Rattle.vera_ast.specs.declared.typed.place.TypedPlace.{TypedPlace}
+use Rattle.vera_ast.specs.declared.typed.place.TypedPlace.TheVariants as places
+use Rattle.vera_ast.specs.declared.typed.stmt.TypedChange.{TypedChange}
+use Rattle.vera_ast.specs.declared.typed.stmt.TypedChange.TheVariants.{Assign}
 use Rattle.vera_ast.specs.declared.typed.stmt.TypedDrive.{TypedDrive}
 use Rattle.vera_ast.specs.declared.typed.stmt.TypedEdge.{TypedEdge}
 use Rattle.vera_ast.specs.declared.typed.stmt.TypedPrintf.{TypedPrintf}
 use Rattle.vera_ast.specs.declared.typed.stmt.TypedStep.{TypedStep}
-use Rattle.vera_ast.specs.declared.typed.stmt.TypedStmt.TheVariants.{Block', Step, While', Printf, Drive, Edge}
+use Rattle.vera_ast.specs.declared.typed.stmt.TypedStmt.TheVariants.{Step, While', Printf, Drive, Edge}
 use Rattle.vera_ast.specs.declared.typed.stmt.TypedStmt.TheViews as stmts
 use Rattle.vera_ast.specs.declared.typed.stmt.TypedWhile.{TypedWhile}
-use Rattle.vera_ast.specs.declared.typed.types.VectorType.{VectorType}
+use Rattle.vera_ast.specs.declared.typed.types.ValueType.{ValueType}
+use Rattle.vera_ast.specs.declared.typed.types.ValueType.TheVariants.{Vector}
 use Rattle.vera_ast.specs.declared.typed.types.VectorType.TheVariants as types
-use Rattle.vera_ast.specs.Types.{width_of, is_signed}
+use Rattle.vera_ast.specs.ExprTypes.{type_of}
 use Rattle.run_rules.specs.declared.drive.Drive as drive
 use Rattle.vera_meaning.specs.Rests.{Here, Item, Do, Again, Rest, nothing_left}
 use Rattle.vera_meaning.specs.Operators.{fitted, is_true}
 use Rattle.vera_meaning.specs.Formats.{formatted}
-use Rattle.vera_meaning.specs.Expressions.{place_of, type_of}
-use Rattle.vera_meaning.specs.Statements.{size_of, take_item, rest_at, gone_on, is_free, Exit, Inside, After}
+use Rattle.vera_meaning.specs.Expressions.{place_of, bits_at, read_at, Next}
+use Rattle.vera_meaning.specs.Statements.{size_of, written_at, driven, take_item, rest_at, gone_on, is_free, Exit, Inside, After}
 use Rattle.vera_meaning.specs.Slices.{until_tick, all_items, slice_of}
-use Rattle.vera_meaning.proofs.StatementViews.{take_stmt-while, is_free-while, inside-block, inside-while, size_of-block}
+use Rattle.vera_meaning.proofs.StatementViews.{take_stmt-while, is_free-while, inside-while}
+use Rattle.vera_meaning.proofs.Bounds.{size_of-free, first_free}
 use Rattle.plain_run.specs.declared.evaluate.expr.Typed.{Typed}
 use Rattle.plain_run.specs.declared.evaluate.slice.SliceEnd.TheVariants as ends
 use Rattle.plain_run.specs.declared.evaluate.work.Timed.{Timed}
 use Rattle.plain_run.specs.declared.evaluate.work.Timed.TheVariants as timed
-use Rattle.plain_run.specs.Gives.{Gives}
+use Rattle.plain_run.specs.Gives.{Gives, Changes}
 use Rattle.plain_run.specs.SliceEnds.{EndsSo}
 use Rattle.plain_run.specs.Work.{timed_item}
 use Rattle.plain_run.specs.Going.{IsAt, Finds}
 use Rattle.plain_run.specs.Logs.{Told, tells, tells_all}
 use Rattle.plain_run.specs.Printing.{argument_of, GivesAll}
-
--- a block is opened, where more than the free items may be taken off
-until_tick-block : (here : Here) (later : List Item → ℕ → Tree Rest) (free : ℕ) (b : TypedBlock) (rest : List Item) (ticks : ℕ) → until_tick here later (suc free) (Do (stmts.Block b) ∷ rest) ticks ≡ until_tick here later free (map Do b.stmts ++ rest) ticks
-until_tick-block here later free b rest ticks = ap (λ items. until_tick here later free items ticks) (inside-block b rest)
+use Rattle.plain_run.specs.Values.{found_at, written}
 
 -- a number above another isn't 0
 above : (n m : ℕ) → n < m → (k : ℕ) × (m ≡ suc k) × (n ≤ k)
 above n zero h = absurd (omega arith)
 above n (suc m) h = (m, refl, omega arith)
 
-pub opens_block : (b : TypedBlock) (rest : List Item) → Finds (Do (stmts.Block b) ∷ rest) (map Do b.stmts ++ rest)
-opens_block b rest here goal start log ticks c at =
-    let size = size_of-block b rest in
-    let free = above (size_of (Do (stmts.Block b) ∷ rest)) at.free at.free_within in
+-- an item that takes none is opened, where more than the free items may be taken off
+pub opens_free : (i : Item) (rest : List Item) → is_free i ≡ true → Finds (i ∷ rest) (rest_at i rest Inside)
+opens_free i rest free here goal start log ticks c at =
+    let smaller = size_of-free i rest free in
+    let left = above (size_of (i ∷ rest)) at.free at.free_within in
     record {
       effects = at.effects;
       bound = at.bound;
-      free = free.0;
+      free = left.0;
       ticks_within = at.ticks_within;
-      free_within = omega (arith, size, free.2);
+      free_within = omega (arith, smaller, left.2);
       log_is = at.log_is;
       same =
-          sym (ap (λ t. walked_from t c at.effects) (until_tick-block here (all_items here at.bound) free.0 b rest ticks))
-          ∙ (ap (λ n. walked_from (until_tick here (all_items here at.bound) n (Do (stmts.Block b) ∷ rest) ticks) c at.effects) (sym free.1) ∙ at.same);
+          sym (ap (λ t. walked_from t c at.effects) (first_free here (all_items here at.bound) left.0 i rest ticks free))
+          ∙ (ap (λ n. walked_from (until_tick here (all_items here at.bound) n (i ∷ rest) ticks) c at.effects) (sym left.1) ∙ at.same);
     }
 
 -- An item that takes a tick is taken off: it goes on with what remains.
@@ -102,14 +105,44 @@ taking here goal start log item rest ticks c timed at =
           ∙ (ap (λ n. walked_from (until_tick here (all_items here at.bound) n (item ∷ rest) ticks) c at.effects) (sym free.1) ∙ at.same);
     }
 
+-- what stands at a place
+pub reads : (o : Option Loc) (of : ValueType) (c : Contents) (bits : List Bit) → bits ≡ bits_at of (found_at c o) → (ticks : ℕ) (next : Next) (es : List Effect) → walked_from (read_at o of ticks next) c es ≡ walked_from (next bits ticks) c es
+reads None of c bits is ticks next es = ap (λ b. walked_from (next b ticks) c es) (sym is)
+reads (Some l) of c bits is ticks next es = ap (λ b. walked_from (next b ticks) c es) (sym is)
+
+-- bits are written at a place
+writes : (o : Option Loc) (bits : List Bit) (c : Contents) (t : Tree Rest) (es : List Effect) → walked_from (written_at o bits t) c es ≡ walked_from t (written o bits c) es
+writes None bits c t es = refl
+writes (Some l) bits c t es = refl
+
 -- an assignment
-pub assigned : (a : TypedStep) (of : VectorType) (width : ℕ) (signed : Bool) (bits result : List Bit) (c c' : Contents) → of ≡ type_of a.value → Gives a.value c bits → width ≡ width_of a.target.of → signed ≡ is_signed of → result ≡ extended width signed bits → c' ≡ put_at c (place_of a.target.place) (Bits result) → (here : Here) (goal : End Rest) (start log : Told) (rest : List Item) (ticks : ℕ) → IsAt here goal start log (Do (Step a) ∷ rest) (suc ticks) c → IsAt here goal start log rest ticks c'
-assigned a of width signed bits result c c' of_is gives width_is signed_is result_is put here goal start log rest ticks at =
-    let is : result ≡ fitted (type_of a.value) a.target.of bits = result_is ∙ (ap (λ w. extended w signed bits) width_is ∙ ap (λ s. extended (width_of a.target.of) s bits) (signed_is ∙ ap is_signed of_is)) in
+pub assigned : (v : TypedVariable) (e : TypedExpr) (of : ValueType) (bits result : List Bit) (c d : Contents) → of ≡ type_of e → Gives e c bits → result ≡ fitted of v.of bits → d ≡ written (place_of v.place) result c → Changes (places.Variable v) (Assign e) c d
+assigned v e of bits result c d of_is gives result_is put = λ ticks next es.
+    let is : result ≡ fitted (type_of e) v.of bits = result_is ∙ ap (λ ty. fitted ty v.of bits) of_is in
+    gives ticks (λ b left. written_at (place_of v.place) (fitted (type_of e) v.of b) (next left)) es
+    ∙ (writes (place_of v.place) (fitted (type_of e) v.of bits) c (next ticks) es
+    ∙ ap (λ x. walked_from (next ticks) x es) (sym (put ∙ ap (λ b. written (place_of v.place) b c) is)))
+
+-- other changes
+pub other_place : (target : TypedPlace) (change : TypedChange) (c : Contents) → ((v : TypedVariable) → target ≢ places.Variable v) → Changes target change c c
+other_place (places.Variable v) change c other = absurd (other v refl)
+other_place target change c other = λ ticks next es. refl
+
+pub other_change : (v : TypedVariable) (change : TypedChange) (c : Contents) → ((e : TypedExpr) → change ≢ Assign e) → Changes (places.Variable v) change c c
+other_change v (Assign e) c other = absurd (other e refl)
+other_change v change c other = λ ticks next es. refl
+
+-- the same of an equal place and an equal change
+pub changes_at : (target place : TypedPlace) (change changed : TypedChange) (c d : Contents) → target ≡ place → change ≡ changed → Changes place changed c d → Changes target change c d
+changes_at target place change changed c d same_place same_change h =
+    subst (λ p. Changes p change c d) (sym same_place) (subst (λ x. Changes place x c d) (sym same_change) h)
+
+-- a step
+pub stepped : (a : TypedStep) (c d : Contents) → Changes a.target a.change c d → (here : Here) (goal : End Rest) (start log : Told) (rest : List Item) (ticks : ℕ) → IsAt here goal start log (Do (Step a) ∷ rest) (suc ticks) c → IsAt here goal start log rest ticks d
+stepped a c d changes here goal start log rest ticks at =
     let t = taking here goal start log (Do (Step a)) rest (suc ticks) c refl at in
-    later here goal start log rest t.bound ticks c' t.effects t.within t.log_is
-    (ap (λ x. walked_from (all_items here t.bound rest ticks) x t.effects) (put ∙ ap (λ v. put_at c (place_of a.target.place) (Bits v)) is)
-    ∙ (sym (gives ticks (λ b left. Puts (place_of a.target.place) (Bits (fitted (type_of a.value) a.target.of b)) (all_items here t.bound rest left)) t.effects) ∙ t.same))
+    later here goal start log rest t.bound ticks d t.effects t.within t.log_is
+    (sym (changes ticks (behind here t.bound (Do (Step a)) rest After) t.effects) ∙ t.same)
 
 -- one effect more
 tells_all-push : (t : Told) (es : List Effect) (e : Effect) → tells_all t (es ++ e ∷ []) ≡ tells (tells_all t es) e
@@ -139,15 +172,26 @@ printed_at p all format values slice before after c all_is gives format_is slice
     at
 
 -- a drive
-pub driven : (d : TypedDrive) (of : VectorType) (signed : Bool) (bits result : List Bit) (before after : List drive.Drive) (c : Contents) (here : Here) → of ≡ type_of d.value → Gives d.value c bits → signed ≡ is_signed of → result ≡ extended d.target.width.bits signed bits → after ≡ before ++ record { cycle = here.cycle; signal = d.target.number; bits = result } ∷ [] → (goal : End Rest) (start log : Told) (rest : List Item) (ticks : ℕ) → log.due ≡ before → IsAt here goal start log (Do (Drive d) ∷ rest) (suc ticks) c → IsAt here goal start (record log { due = after }) rest ticks c
-driven d of signed bits result before after c here of_is gives signed_is result_is due goal start log rest ticks front at =
-    let fit = fitted (type_of d.value) (types.Bits d.target.width) bits in
-    let is : result ≡ fit = result_is ∙ ap (λ s. extended d.target.width.bits s bits) (signed_is ∙ ap is_signed of_is) in
+pub driven_now : (d : TypedDrive) (of : ValueType) (bits result : List Bit) (before after : List drive.Drive) (c : Contents) (here : Here) → d.delay ≡ None → of ≡ type_of d.value → Gives d.value c bits → result ≡ fitted of (Vector (types.Bits d.target.width)) bits → after ≡ before ++ record { cycle = here.cycle; signal = d.target.number; bits = result } ∷ [] → (goal : End Rest) (start log : Told) (rest : List Item) (ticks : ℕ) → log.due ≡ before → IsAt here goal start log (Do (Drive d) ∷ rest) (suc ticks) c → IsAt here goal start (record log { due = after }) rest ticks c
+driven_now d of bits result before after c here now of_is gives result_is due goal start log rest ticks front at =
+    let fit = fitted (type_of d.value) (Vector (types.Bits d.target.width)) bits in
+    let is : result ≡ fit = result_is ∙ ap (λ ty. fitted ty (Vector (types.Bits d.target.width)) bits) of_is in
     let t = taking here goal start log (Do (Drive d)) rest (suc ticks) c refl at in
+    let next = behind here t.bound (Do (Drive d)) rest After in
     later here goal start (record log { due = after }) rest t.bound ticks c (t.effects ++ Drives here.cycle d.target.number fit ∷ []) t.within
     (told_more start log (record log { due = after }) t.effects (Drives here.cycle d.target.number fit) t.log_is
     (ap (λ xs. record log { due = xs }) (due ∙ (ap (λ b. before ++ record { cycle = here.cycle; signal = d.target.number; bits = b } ∷ []) is ∙ ap (λ xs. xs ++ record { cycle = here.cycle; signal = d.target.number; bits = fit } ∷ []) (sym front)))))
-    (sym (gives ticks (λ b left. Emits (Drives here.cycle d.target.number (fitted (type_of d.value) (types.Bits d.target.width) b)) (all_items here t.bound rest left)) t.effects) ∙ t.same)
+    (sym (gives ticks (λ b left. Emits (Drives here.cycle d.target.number (fitted (type_of d.value) (Vector (types.Bits d.target.width)) b)) (next left)) t.effects)
+    ∙ (ap (λ o. walked_from (driven here d.target o d.value ticks next) c t.effects) (sym now) ∙ t.same))
+
+-- a drive with a delay
+pub driven_later : (d : TypedDrive) (delay : TypedExpr) (before : List drive.Drive) (c : Contents) (here : Here) → d.delay ≡ Some delay → (goal : End Rest) (start log : Told) (rest : List Item) (ticks : ℕ) → log.due ≡ before → IsAt here goal start log (Do (Drive d) ∷ rest) (suc ticks) c → IsAt here goal start (record log { due = before }) rest ticks c
+driven_later d delay before c here delayed goal start log rest ticks front at =
+    let t = taking here goal start log (Do (Drive d)) rest (suc ticks) c refl at in
+    let next = behind here t.bound (Do (Drive d)) rest After in
+    subst (λ due. IsAt here goal start (record log { due = due }) rest ticks c) front
+    (later here goal start log rest t.bound ticks c t.effects t.within t.log_is
+    (ap (λ o. walked_from (driven here d.target o d.value ticks next) c t.effects) (sym delayed) ∙ t.same))
 
 -- an edge
 pub waits : (e : TypedEdge) (here : Here) (goal : End Rest) (start log : Told) (rest : List Item) (ticks : ℕ) (c : Contents) → IsAt here goal start log (Do (Edge e) ∷ rest) (suc ticks) c → EndsSo ends.Waits start log c rest goal
@@ -205,12 +249,12 @@ ended_so here slice start log ticks c items at =
 
 -- an item that takes a tick can't be done without one
 no_tick : (here : Here) (item : Item) (next : Exit → ℕ → Tree Rest) → is_free item ≡ false → take_item here item 0 next ≡ Ends Spent nothing_left
-no_tick here (Do (Block' line decls p stmts)) next timed = absurd cc
 no_tick here (Do (Step a)) next timed = refl
 no_tick here (Do (While' line condition p body)) next timed = refl
 no_tick here (Do (Printf p)) next timed = refl
 no_tick here (Do (Drive d)) next timed = refl
 no_tick here (Do (Edge e)) next timed = refl
+no_tick here (Do other) next timed = absurd cc
 no_tick here (Again line condition body) next timed = refl
 
 is_free-timed : (t : Timed) → is_free (timed_item t) ≡ false

@@ -1,6 +1,7 @@
 -- The evaluator's work list, as what is still to do. Its last entry comes first.
-use Rattle.std.specs.Prelude.{◌≡◌, List, map, reverse}
+use Rattle.std.specs.Prelude.{◌≡◌, List, true, map, reverse}
 use Rattle.vera_meaning.specs.Rests.{Item, Do as DoItem, Again as AgainItem}
+use Rattle.vera_meaning.specs.Statements.{Inside, is_free, rest_at}
 use Rattle.vera_ast.specs.declared.typed.stmt.TypedStmt.TheVariants.{Step, Printf, Drive, Edge}
 use Rattle.vera_ast.specs.declared.typed.stmt.TypedStmt.TheViews.{Block, While}
 use Rattle.plain_run.specs.declared.evaluate.work.Work.{Work}
@@ -30,3 +31,4 @@ timed_item (timed.Test w) = AgainItem w.now.line w.now.condition w.now.body
 abbrev pub IsFront : Front → Item → Type 0
 IsFront (fronts.Block b) item = item ≡ DoItem (Block b.now)
 IsFront (fronts.Timed t) item = item ≡ timed_item t
+IsFront fronts.Nothing item = (is_free item ≡ true) × ((rest : List Item) → rest_at item rest Inside ≡ rest)

@@ -3,7 +3,7 @@ use Rattle.std.specs.Prelude.{◌≡◌, ◌≢◌, ◌⊎◌, ℕ, ◌<◌, Lis
 use Rattle.vera_ast.specs.declared.tree.interfaces.Direction.{Direction}
 use Rattle.vera_ast.specs.declared.tree.interfaces.Direction.TheVariants.{Input, Output}
 use Rattle.vera_ast.specs.declared.typed.interface.TypedSignalKind.{TypedSignalKind}
-use Rattle.vera_ast.specs.declared.typed.interface.TypedSignalKind.TheVariants.{Clock, PositiveHold, PositiveSample}
+use Rattle.vera_ast.specs.declared.typed.interface.TypedSignalKind.TheVariants.{Clock}
 use Rattle.vera_ast.specs.declared.typed.interface.TypedSignal.{TypedSignal}
 use Rattle.vera_ast.specs.Signals.{NamedSignal}
 use Rattle.blif_read.specs.Netlists.{Parts}
@@ -25,11 +25,8 @@ HasClockName p name = (net : ℕ) → p.clock ≡ Some net → slice_get p.nets 
 -- have the name of the netlist's clock, where there is one.
 abbrev pub LinksAs : Parts → TypedSignal → TypedSignalKind → Direction → Type 0
 LinksAs p s Clock Input = HasClockName p s.name
-LinksAs p s Clock Output = All (IsDrivable p) (nets_of p.nets s)
-LinksAs p s PositiveHold Output = All (IsDrivable p) (nets_of p.nets s)
-LinksAs p s PositiveHold Input = All (IsSampled p) (nets_of p.nets s)
-LinksAs p s PositiveSample Output = All (IsDrivable p) (nets_of p.nets s)
-LinksAs p s PositiveSample Input = All (IsSampled p) (nets_of p.nets s)
+LinksAs p s kind Output = All (IsDrivable p) (nets_of p.nets s)
+LinksAs p s kind Input = All (IsSampled p) (nets_of p.nets s)
 
 abbrev pub Links : Parts → TypedSignal → Type 0
 Links p s = LinksAs p s s.kind s.direction

@@ -2,6 +2,7 @@
 use Rattle.std.proofs.Common.{◌≡◌, ℕ, ◌+◌, ◌-◌, ◌<◌, ◌≤◌, true, false, List, [], ◌∷◌, ◌++◌, length, Some, Err, refl, sym, ap}
 use Rattle.vera_ast.specs.Types.{common}
 use Rattle.vera_ast.specs.declared.typed.expr.TypedLink.{TypedLink, roll-TypedLink}
+use Rattle.vera_ast.specs.declared.typed.types.ValueType.TheVariants.{Vector}
 use Rattle.vera_ast.specs.declared.typed.types.VectorType.{VectorType}
 use Rattle.second_form.specs.declared.error.FormError.{FormError}
 use Rattle.second_form.specs.declared.error.FormError.TheVariants.{OtherForm, NoMemory}
@@ -10,10 +11,10 @@ use Rattle.second_form.specs.Tokens.{Token}
 use Rattle.second_form.specs.Reading.{Outcome, Parser, begins, and_then, many_from, many, links, Reads, typed_links}
 use Rattle.second_form.proofs.Turns as turns
 
-links_push : (of : VectorType) (ls : List Link) (l : Link) → links_after of (ls ++ l ∷ []) ≡ links_after of ls ++ roll-TypedLink (record { operator = l.0; works_in = common (type_after of ls) l.1.of; operand = l.1.expr }) ∷ []
+links_push : (of : VectorType) (ls : List Link) (l : Link) → links_after of (ls ++ l ∷ []) ≡ links_after of ls ++ roll-TypedLink (record { operator = l.0; works_in = Vector (common (type_after of ls) l.1.of); operand = l.1.expr }) ∷ []
 unfolding links_after type_after
 links_push of [] l = refl
-links_push of (x ∷ ls) l = ap (λ (w : List TypedLink). roll-TypedLink (record { operator = x.0; works_in = common of x.1.of; operand = x.1.expr }) ∷ w) (links_push (common of x.1.of) ls l)
+links_push of (x ∷ ls) l = ap (λ (w : List TypedLink). roll-TypedLink (record { operator = x.0; works_in = Vector (common of x.1.of); operand = x.1.expr }) ∷ w) (links_push (common of x.1.of) ls l)
 
 type_push : (of : VectorType) (ls : List Link) (l : Link) → type_after of (ls ++ l ∷ []) ≡ common (type_after of ls) l.1.of
 unfolding type_after
@@ -51,7 +52,7 @@ module _ (p : Parser Link) (first : VectorType) (total : Outcome (List Link)) (n
   stops_by e rest end lt b h = failed e end end (turns.stops_by links p s.read total n at ts e rest end lt b h s.left)
 
   pub goes_on : (l : Link) (mid : List Token) (more : List TypedLink) (next : VectorType) → at < n → begins links ts ≡ true → p ts ≡ Some (l, mid) → next ≡ common of l.1.of
-      → more ≡ found ++ roll-TypedLink (record { operator = l.0; works_in = next; operand = l.1.expr }) ∷ [] → SoFar p first total n (at + 1) mid more next
+      → more ≡ found ++ roll-TypedLink (record { operator = l.0; works_in = Vector next; operand = l.1.expr }) ∷ [] → SoFar p first total n (at + 1) mid more next
   goes_on l mid more next lt b h is e =
       record {
         read = s.read ++ l ∷ [];

@@ -1,5 +1,5 @@
 -- Each drive of a program names an output.
-use Rattle.std.proofs.Common.{◌≡◌, ℕ, zero, suc, true, List, [], ◌∷◌, Option, Some, sym, ap, subst, ◌∙◌, inl, inr}
+use Rattle.std.proofs.Common.{◌≡◌, ℕ, zero, suc, true, List, [], ◌∷◌, Option, Some, None, sym, ap, subst, ◌∙◌, inl, inr}
 use Rattle.vera_ast.specs.Signals.{NamedSignal, signals_in, program_in, IsOutput, DrivesOutputs, AllDriveOutputs, AreApart}
 use Rattle.vera_ast.specs.declared.typed.file.TypedItem.{TypedItem}
 use Rattle.vera_ast.specs.declared.typed.file.TypedProgram.{TypedProgram}
@@ -12,6 +12,7 @@ use Rattle.vera_ast.specs.declared.typed.stmt.TypedStmt.{TypedStmt}
 use Rattle.vera_ast.specs.declared.typed.stmt.TypedStmt.TheViews as views
 use Rattle.vera_ast.specs.declared.typed.stmt.TypedStmt.TheBlock.{hidden-the_row-TypedStmt-0 as row}
 use Rattle.vera_ast.specs.declared.typed.stmt.TypedWhile.{TypedWhile, roll-TypedWhile}
+use Rattle.vera_ast.proofs.TypedStmtViews.{block-is, while-is, no_stmts-is, stmts-is}
 use Rattle.second_form.specs.declared.names.Role.TheVariants.{Driven}
 use Rattle.second_form.specs.declared.names.Typed.{Typed}
 use Rattle.second_form.specs.declared.token.TokenKind.{TokenKind}
@@ -34,17 +35,14 @@ module _ (signals : List NamedSignal) where
   Each (s ∷ more) = DrivesOutputs signals s × Each more
 
   all_row : (stmts : List TypedStmt) → Each stmts → AllDriveOutputs signals (row stmts)
-  unfolding Rattle.vera_ast.specs.declared.typed.stmt.TypedStmt.TheBlock.hidden-the_row-TypedStmt-0 denote.Hole.Carrier.roll denote.Hole.Carrier.hidden
-  all_row [] h = tt
-  all_row (s ∷ more) h = (h.0, all_row more h.1)
+  all_row [] h = no_stmts-is (λ m r. AllDriveOutputs {m = m} signals r) tt
+  all_row (s ∷ more) h = stmts-is (λ m r. AllDriveOutputs {m = m} signals r) s more (h.0, all_row more h.1)
 
   drives_block : (b : TypedBlock) → Each b.stmts → DrivesOutputs signals (views.Block b)
-  unfolding Rattle.vera_ast.specs.declared.typed.stmt.TypedStmt.TheViews.roll-TypedStmt denote.Hole.Carrier.roll denote.Hole.Carrier.hidden
-  drives_block b h = all_row b.stmts h
+  drives_block b h = block-is (DrivesOutputs signals) b (all_row b.stmts h)
 
   drives_while : (w : TypedWhile) → DrivesOutputs signals w.body → DrivesOutputs signals (views.While w)
-  unfolding Rattle.vera_ast.specs.declared.typed.stmt.TypedStmt.TheViews.roll-TypedStmt Rattle.vera_ast.specs.declared.typed.stmt.TypedStmt.TheBlock.hidden-the_row-TypedStmt-1 denote.Hole.Carrier.roll denote.Hole.Carrier.hidden
-  drives_while w h = h
+  drives_while w h = while-is (DrivesOutputs signals) w (λ p. h)
 
 -- ---- statements as they are derived
 

@@ -1,6 +1,6 @@
 -- Sums are read as they are derived.
 use Rattle.std.proofs.Common.{◌≡◌, ℕ, zero, suc, ◌-◌, ◌<◌, arith, true, false, List, [], ◌∷◌, Option, Some, None, refl, ap}
-use Rattle.vera_ast.specs.declared.typed.expr.BinaryOperator.{BinaryOperator}
+use Rattle.vera_ast.specs.declared.tree.expressions.ChainOperator.{ChainOperator}
 use Rattle.vera_ast.specs.declared.typed.interface.TypedInterface.{TypedInterface}
 use Rattle.vera_ast.specs.declared.typed.names.TypedSignalName.{TypedSignalName}
 use Rattle.vera_ast.specs.declared.typed.names.TypedVariable.{TypedVariable}
@@ -38,7 +38,7 @@ number : (clash : List TokenKind) → Law (k.Number ∷ []) clash r.number g.num
 unfolding r.number g.number
 number clash = token_law (k.Number ∷ []) clash (λ t. g.number_at t.kind t.text) (λ t n e. only_number t.kind t.text n e)
 
-only_link : (kind : TokenKind) (o : BinaryOperator) → g.sum_operator kind ≡ Some o → among links kind ≡ true
+only_link : (kind : TokenKind) (o : ChainOperator) → g.sum_operator kind ≡ Some o → among links kind ≡ true
 only_link k.Plus o e = refl
 only_link k.Minus o e = refl
 only_link _ o e = absurd cc
@@ -47,7 +47,7 @@ sum_operator : (clash : List TokenKind) → Law links clash (r.operator g.sum_op
 unfolding r.operator g.operator
 sum_operator clash = token_law links clash (λ t. g.sum_operator t.kind) (λ t o e. only_link t.kind o e)
 
-only_comparison : (kind : TokenKind) (o : BinaryOperator) → g.comparison kind ≡ Some o → among comparisons kind ≡ true
+only_comparison : (kind : TokenKind) (o : ChainOperator) → g.comparison kind ≡ Some o → among comparisons kind ≡ true
 only_comparison k.Less o e = refl
 only_comparison k.LessEqual o e = refl
 only_comparison k.Greater o e = refl

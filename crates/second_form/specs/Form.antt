@@ -1,7 +1,7 @@
 -- The second form, production by production.
-use Rattle.std.specs.Prelude.{◌≡◌, ℕ, zero, suc, ◌≤◌, true, List, [], ◌∷◌, ◌++◌, length, Option, Some, None, option_map}
-use Rattle.vera_ast.specs.declared.typed.expr.BinaryOperator.{BinaryOperator}
-use Rattle.vera_ast.specs.declared.typed.expr.BinaryOperator.TheVariants.{Add, Subtract, Less, LessEqual, Greater, GreaterEqual, Equal, NotEqual}
+use Rattle.std.specs.Prelude.{◌≡◌, ℕ, zero, suc, ◌≤◌, true, false, List, [], ◌∷◌, ◌++◌, length, Option, Some, None, option_map}
+use Rattle.vera_ast.specs.declared.tree.expressions.ChainOperator.{ChainOperator}
+use Rattle.vera_ast.specs.declared.tree.expressions.ChainOperator.TheVariants.{Add, Subtract, Less, LessEqual, Greater, GreaterEqual, Equal, NotEqual}
 use Rattle.vera_ast.specs.declared.typed.expr.TypedExpr.{TypedExpr}
 use Rattle.vera_ast.specs.declared.typed.expr.TypedExpr.TheVariants as e
 use Rattle.vera_ast.specs.declared.typed.expr.TypedLink.{TypedLink, roll-TypedLink}
@@ -11,14 +11,22 @@ use Rattle.vera_ast.specs.declared.typed.file.TypedTree.{TypedTree}
 use Rattle.vera_ast.specs.declared.typed.interface.TypedInterface.{TypedInterface}
 use Rattle.vera_ast.specs.declared.typed.names.TypedSignalName.{TypedSignalName}
 use Rattle.vera_ast.specs.declared.typed.names.TypedVariable.{TypedVariable}
-use Rattle.vera_ast.specs.declared.typed.stmt.FormatPart.TheVariants.{Bytes, Decimal}
+use Rattle.vera_ast.specs.declared.typed.names.VariablePlace.TheVariants.{Program}
+use Rattle.vera_ast.specs.declared.typed.format.ConversionLetter.TheVariants.{Decimal}
+use Rattle.vera_ast.specs.declared.typed.format.FormatPart.TheVariants.{Bytes, Conversion}
+use Rattle.vera_ast.specs.declared.typed.place.TypedPlace.TheVariants.{Variable}
+use Rattle.vera_ast.specs.declared.typed.stmt.DeclaredVariable.{DeclaredVariable}
 use Rattle.vera_ast.specs.declared.typed.stmt.TypedBlock.{roll-TypedBlock}
+use Rattle.vera_ast.specs.declared.typed.stmt.TypedChange.TheVariants as change
 use Rattle.vera_ast.specs.declared.typed.stmt.TypedDecl.{TypedDecl}
 use Rattle.vera_ast.specs.declared.typed.stmt.TypedStmt.{TypedStmt}
 use Rattle.vera_ast.specs.declared.typed.stmt.TypedStmt.TheVariants as s
 use Rattle.vera_ast.specs.declared.typed.stmt.TypedWhile.{roll-TypedWhile}
+use Rattle.vera_ast.specs.declared.typed.types.ValueType.TheVariants.{Vector}
+use Rattle.vera_ast.specs.declared.typed.types.VariableType.TheVariants.{Value}
 use Rattle.vera_ast.specs.declared.typed.types.VectorType.{VectorType}
 use Rattle.vera_ast.specs.declared.typed.types.VectorType.TheVariants.{Integer, Bits}
+use Rattle.vera_ast.specs.declared.tree.statements.DriveOperator.TheVariants as sign
 use Rattle.vera_ast.specs.Types.{common}
 use Rattle.four_state.specs.Numbers.{vector_of}
 use Rattle.second_form.specs.declared.names.Declared.{Declared}
@@ -48,12 +56,12 @@ abbrev pub number_at : TokenKind → List ℕ → Option ℕ
 number_at k.Number text = number_of text
 number_at _ text = None
 
-abbrev pub sum_operator : TokenKind → Option BinaryOperator
+abbrev pub sum_operator : TokenKind → Option ChainOperator
 sum_operator k.Plus = Some Add
 sum_operator k.Minus = Some Subtract
 sum_operator _ = None
 
-abbrev pub comparison : TokenKind → Option BinaryOperator
+abbrev pub comparison : TokenKind → Option ChainOperator
 comparison k.Less = Some Less
 comparison k.LessEqual = Some LessEqual
 comparison k.Greater = Some Greater
@@ -81,20 +89,20 @@ lined_name = token (λ t. lined_at t.kind t.text t.line)
 unfoldable pub number : Lang ℕ
 number = token (λ t. number_at t.kind t.text)
 
-unfoldable pub operator : (TokenKind → Option BinaryOperator) → Lang BinaryOperator
+unfoldable pub operator : (TokenKind → Option ChainOperator) → Lang ChainOperator
 operator f = token (λ t. f t.kind)
 
 -- ---- sums
 
 -- an operator with its right operand
 abbrev pub Link : Type 0
-Link = BinaryOperator × Typed
+Link = ChainOperator × Typed
 
 -- the links after operands of this type, each working in the common type of all that stands before it and its own
 -- operand, and the type of the whole
 unfoldable pub links_after : VectorType → List Link → List TypedLink
 links_after of [] = []
-links_after of (l ∷ ls) = roll-TypedLink (record { operator = l.0; works_in = common of l.1.of; operand = l.1.expr }) ∷ links_after (common of l.1.of) ls
+links_after of (l ∷ ls) = roll-TypedLink (record { operator = l.0; works_in = Vector (common of l.1.of); operand = l.1.expr }) ∷ links_after (common of l.1.of) ls
 
 unfoldable pub type_after : VectorType → List Link → VectorType
 type_after of [] = of
@@ -105,8 +113,9 @@ unfoldable pub chained : Typed → List Link → Typed
 chained x [] = x
 chained x (l ∷ ls) = record { expr = e.Chain x.expr (links_after x.of (l ∷ ls)); of = type_after x.of (l ∷ ls) }
 
+-- all variables are integers
 unfoldable pub variable_typed : TypedVariable → Typed
-variable_typed v = record { expr = e.Variable v; of = v.of }
+variable_typed v = record { expr = e.Variable v; of = Integer }
 
 unfoldable pub number_typed : ℕ → Typed
 number_typed n = record { expr = e.Number (vector_of 32 n) Integer; of = Integer }
@@ -152,7 +161,7 @@ unfoldable pub sum : Names → ℕ → Lang Typed
 sum names zero = sum_of (leaf names)
 sum names (suc n) = sum_of (term names (sum names n))
 
-unfoldable pub compared : Typed → BinaryOperator → Typed → TypedExpr
+unfoldable pub compared : Typed → ChainOperator → Typed → TypedExpr
 compared x o y = e.Chain x.expr (links_after x.of ((o, y) ∷ []))
 
 -- sum cmp sum
@@ -166,10 +175,11 @@ condition sum = do
 -- ---- statements
 
 unfoldable pub assign_stmt : ℕ → TypedVariable → TypedExpr → TypedStmt
-assign_stmt line target value = s.Step (record { line = line; target = target; value = value })
+assign_stmt line target value = s.Step (record { line = line; target = Variable target; change = change.Assign value })
 
+-- the format `%0d`, a zero without a least width, and a newline
 unfoldable pub printf_stmt : ℕ → TypedExpr → TypedStmt
-printf_stmt line x = s.Printf (record { line = line; format = Decimal ∷ Bytes (10 ∷ []) ∷ []; arguments = x ∷ [] })
+printf_stmt line x = s.Printf (record { line = line; format = Conversion (record { zero = true; width = None; letter = Decimal }) ∷ Bytes (10 ∷ []) ∷ []; arguments = x ∷ [] })
 
 unfoldable pub while_stmt : ℕ → TypedExpr → TypedStmt → TypedStmt
 while_stmt line c body = s.While (roll-TypedWhile (record { line = line; condition = c; body = body }))
@@ -178,10 +188,10 @@ unfoldable pub block_stmt : ℕ → List TypedStmt → TypedStmt
 block_stmt line stmts = s.Block (roll-TypedBlock (record { line = line; decls = []; stmts = stmts }))
 
 unfoldable pub drive_stmt : ℕ → TypedSignalName → TypedExpr → TypedStmt
-drive_stmt line target value = s.Drive (record { line = line; target = target; value = value })
+drive_stmt line target value = s.Drive (record { line = line; delay = None; target = target; operator = sign.Assign; value = value })
 
 unfoldable pub edge_stmt : ℕ → TypedStmt
-edge_stmt line = s.Edge (record { line = line })
+edge_stmt line = s.Edge (record { line = line; negative = false })
 
 -- name "=" sum ";"
 unfoldable pub assign : Names → Lang Typed → Lang TypedStmt
@@ -269,9 +279,13 @@ unfoldable pub names_of : List Declared → List (List ℕ)
 names_of [] = []
 names_of (d ∷ ds) = d.name ∷ names_of ds
 
+-- the integer variable of this number, as it is declared
+abbrev pub declared : ℕ → DeclaredVariable
+declared k = record { place = Program k; of = Value (Vector Integer); value = None }
+
 -- the declaration of the variable with this number
 abbrev pub decl_of : ℕ → ℕ → TypedDecl
-decl_of k line = record { line = line; vars = variable k ∷ [] }
+decl_of k line = record { line = line; vars = declared k ∷ [] }
 
 -- the declarations, the first of which is that of the variable with this number
 unfoldable pub decls_from : ℕ → List Declared → List TypedDecl

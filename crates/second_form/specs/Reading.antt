@@ -1,6 +1,6 @@
 -- Reading from left to right, with one token ahead.
 use Rattle.std.specs.Prelude.{◌≡◌, ℕ, zero, suc, nat_le, Bool, false, if◌then◌else◌, List, [], ◌∷◌, length, Option, Some, None, Result, Ok, Err}
-use Rattle.vera_ast.specs.declared.typed.expr.BinaryOperator.{BinaryOperator}
+use Rattle.vera_ast.specs.declared.tree.expressions.ChainOperator.{ChainOperator}
 use Rattle.vera_ast.specs.declared.typed.expr.TypedExpr.{TypedExpr}
 use Rattle.vera_ast.specs.declared.typed.file.TypedTree.{TypedTree}
 use Rattle.vera_ast.specs.declared.typed.names.TypedVariable.{TypedVariable}
@@ -113,7 +113,7 @@ highest = token (λ t. width_at t.kind t.text)
 unfoldable pub number : Parser ℕ
 number = token (λ t. number_at t.kind t.text)
 
-unfoldable pub operator : (TokenKind → Option BinaryOperator) → Parser BinaryOperator
+unfoldable pub operator : (TokenKind → Option ChainOperator) → Parser ChainOperator
 operator f = token (λ t. f t.kind)
 
 -- ---- sums

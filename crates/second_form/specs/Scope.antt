@@ -7,12 +7,13 @@ use Rattle.second_form.specs.declared.names.Role.TheVariants.{Driven, Sampled, W
 use Rattle.vera_ast.specs.declared.tree.interfaces.Direction.{Direction}
 use Rattle.vera_ast.specs.declared.tree.interfaces.Direction.TheVariants.{Input, Output}
 use Rattle.vera_ast.specs.declared.typed.interface.TypedSignalKind.{TypedSignalKind}
-use Rattle.vera_ast.specs.declared.typed.interface.TypedSignalKind.TheVariants.{Clock, PositiveHold, PositiveSample}
+use Rattle.vera_ast.specs.declared.typed.interface.TypedSignalKind.TheVariants.{Clock, PositiveHold, PositiveSample, NegativeHold, NegativeSample}
 use Rattle.vera_ast.specs.declared.typed.interface.TypedInterface.{TypedInterface}
 use Rattle.vera_ast.specs.declared.typed.interface.TypedSignal.{TypedSignal}
 use Rattle.vera_ast.specs.declared.typed.names.TypedSignalName.{TypedSignalName}
 use Rattle.vera_ast.specs.declared.typed.names.TypedVariable.{TypedVariable}
 use Rattle.vera_ast.specs.declared.typed.names.VariablePlace.TheVariants.{Program}
+use Rattle.vera_ast.specs.declared.typed.types.ValueType.TheVariants.{Vector}
 use Rattle.vera_ast.specs.declared.typed.types.VectorType.TheVariants.{Integer}
 
 -- whether no two of the names are the same
@@ -27,7 +28,7 @@ place_of (name ∷ names) w = if bytes_eq name w then Some 0 else option_map suc
 
 -- the integer variable of the program with this number
 unfoldable pub variable : ℕ → TypedVariable
-variable k = record { place = Program k; of = Integer }
+variable k = record { place = Program k; of = Vector Integer }
 
 -- what the names in a program's statements may stand for: signals of the file's interface, if it has one, and variables
 pub record Names : Type 0 where
@@ -59,11 +60,15 @@ abbrev pub is_sampled : TypedSignalKind → Bool
 is_sampled Clock = false
 is_sampled PositiveHold = false
 is_sampled PositiveSample = true
+is_sampled NegativeHold = false
+is_sampled NegativeSample = false
 
 abbrev pub is_clock : TypedSignalKind → Bool
 is_clock Clock = true
 is_clock PositiveHold = false
 is_clock PositiveSample = false
+is_clock NegativeHold = false
+is_clock NegativeSample = false
 
 abbrev pub has_role : Role → TypedSignal → Bool
 has_role Driven s = is_output s.direction

@@ -17,8 +17,8 @@ use four_state::{List, Text};
 use sqlite_items::Items;
 use std::alloc::Global;
 use vera_ast::{
-    TypedBlock, TypedDecl, TypedInterface, TypedItem, TypedProgram, TypedStmt, TypedTree,
-    TypedVariable, VariablePlace, VectorType,
+    DeclaredVariable, TypedBlock, TypedDecl, TypedInterface, TypedItem, TypedProgram, TypedStmt,
+    TypedTree, ValueType, VariablePlace, VariableType, VectorType,
 };
 
 /// The most signals of the interface, its clock too.
@@ -81,14 +81,14 @@ fn body(
 }
 
 /// The declaration of the variable with this number.
-#[tactic(auto, unfolding(crate::specs::Scope::variable))]
 fn typed_decl(alloc: Global, line: u32, number: u32) -> Result<TypedDecl, FormError>
     ensures { IsBuilt result (form.decl_of number line) }
 {
     let mut vars = List::empty(alloc);
-    vars.push(TypedVariable {
+    vars.push(DeclaredVariable {
         place: VariablePlace::Program(number),
-        of: VectorType::Integer,
+        of: VariableType::Value(ValueType::Vector(VectorType::Integer)),
+        value: None,
     })?;
     Ok(TypedDecl { line, vars })
 }

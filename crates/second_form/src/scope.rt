@@ -15,7 +15,7 @@ use std::collections::HashMap;
 use std::marker::Model;
 use vera_ast::{
     Direction, TypedInterface, TypedSignal, TypedSignalKind, TypedSignalName, TypedVariable,
-    VariablePlace, VectorType,
+    ValueType, VariablePlace, VectorType,
 };
 
 /// What the names in a program's statements may stand for: signals of the file's interface, and variables. Among all
@@ -70,7 +70,7 @@ impl<'a> Scope<'a> {
         match self.places.get(name) {
             Some(place) if (*place as usize) < self.decls.len() => Some(TypedVariable {
                 place: VariablePlace::Program(*place),
-                of: VectorType::Integer,
+                of: ValueType::Vector(VectorType::Integer),
             }),
             _ => None,
         }

@@ -14,8 +14,8 @@ use four_state::{List, Text};
 use sqlite_items::{Boxed, Items};
 use std::alloc::Global;
 use vera_ast::{
-    FormatPart, TypedBlock, TypedDrive, TypedEdge, TypedExpr, TypedPrintf, TypedStep, TypedStmt,
-    TypedWhile,
+    Conversion, ConversionLetter, DriveOperator, FormatPart, TypedBlock, TypedChange, TypedDrive,
+    TypedEdge, TypedExpr, TypedPlace, TypedPrintf, TypedStep, TypedStmt, TypedWhile,
 };
 
 const FIRST_STMT: [TokenKind; 5] = [
@@ -34,7 +34,11 @@ fn printed(alloc: Global, line: u32, value: TypedExpr) -> Result<TypedStmt, Form
     ensures { IsBuilt result (form.printf_stmt line value) }
 {
     let mut format = List::empty(alloc);
-    format.push(FormatPart::Decimal)?;
+    format.push(FormatPart::Conversion(Conversion {
+        zero: true,
+        width: None,
+        letter: ConversionLetter::Decimal,
+    }))?;
     format.push(FormatPart::Bytes(Text::from_slice(alloc, b"\n")?))?;
     let mut arguments = List::empty(alloc);
     arguments.push(value)?;
@@ -85,8 +89,8 @@ impl<'r, 'v> Reader<'r, 'v> {
         tokens.word(TokenKind::Semicolon)?;
         Ok(TypedStmt::Step(TypedStep {
             line,
-            target,
-            value: value.expr,
+            target: TypedPlace::Variable(target),
+            change: TypedChange::Assign(value.expr),
         }))
     }
 
@@ -101,7 +105,9 @@ impl<'r, 'v> Reader<'r, 'v> {
         tokens.word(TokenKind::Semicolon)?;
         Ok(TypedStmt::Drive(TypedDrive {
             line,
+            delay: None,
             target,
+            operator: DriveOperator::Assign,
             value: value.expr,
         }))
     }
@@ -129,7 +135,10 @@ impl<'r, 'v> Reader<'r, 'v> {
         self.waited(tokens)?;
         tokens.word(TokenKind::RightParen)?;
         tokens.word(TokenKind::Semicolon)?;
-        Ok(TypedStmt::Edge(TypedEdge { line }))
+        Ok(TypedStmt::Edge(TypedEdge {
+            line,
+            negative: false,
+        }))
     }
 
     /// `printf ( "%0d\n" , sum ) ;`.

@@ -14,7 +14,9 @@ use crate::token::{Token, TokenKind};
 use four_state::Vec4;
 use sqlite_items::{Boxed, Items};
 use std::alloc::Global;
-use vera_ast::{BinaryOperator, TypedExpr, TypedLink, TypedSignalName, TypedVariable, VectorType};
+use vera_ast::{
+    ChainOperator, TypedExpr, TypedLink, TypedSignalName, TypedVariable, ValueType, VectorType,
+};
 
 const LINKS: [TokenKind; 2] = [TokenKind::Plus, TokenKind::Minus];
 
@@ -68,7 +70,7 @@ fn number_leaf(tokens: &mut Cursor<'_>) -> Result<Typed, FormError>
 fn compared(
     alloc: Global,
     left: Typed,
-    operator: BinaryOperator,
+    operator: ChainOperator,
     right: Typed,
 ) -> Result<TypedExpr, FormError>
     ensures { IsBuilt result (form.compared left operator right) }
@@ -76,39 +78,39 @@ fn compared(
     let mut links = Items::new(alloc);
     links.push(TypedLink {
         operator,
-        works_in: left.of.common(right.of),
+        works_in: ValueType::Vector(left.of.common(right.of)),
         operand: right.expr,
     })?;
     Ok(TypedExpr::Chain(Boxed::new(alloc, left.expr)?, links))
 }
 
-fn sum_operator(kind: TokenKind) -> Option<BinaryOperator>
+fn sum_operator(kind: TokenKind) -> Option<ChainOperator>
     ensures { result ≡ form.sum_operator kind }
 {
     match kind {
-        TokenKind::Plus => Some(BinaryOperator::Add),
-        TokenKind::Minus => Some(BinaryOperator::Subtract),
+        TokenKind::Plus => Some(ChainOperator::Add),
+        TokenKind::Minus => Some(ChainOperator::Subtract),
         _ => None,
     }
 }
 
-fn comparison_operator(kind: TokenKind) -> Option<BinaryOperator>
+fn comparison_operator(kind: TokenKind) -> Option<ChainOperator>
     ensures { result ≡ form.comparison kind }
 {
     match kind {
-        TokenKind::Less => Some(BinaryOperator::Less),
-        TokenKind::LessEqual => Some(BinaryOperator::LessEqual),
-        TokenKind::Greater => Some(BinaryOperator::Greater),
-        TokenKind::GreaterEqual => Some(BinaryOperator::GreaterEqual),
-        TokenKind::Equal => Some(BinaryOperator::Equal),
-        TokenKind::NotEqual => Some(BinaryOperator::NotEqual),
+        TokenKind::Less => Some(ChainOperator::Less),
+        TokenKind::LessEqual => Some(ChainOperator::LessEqual),
+        TokenKind::Greater => Some(ChainOperator::Greater),
+        TokenKind::GreaterEqual => Some(ChainOperator::GreaterEqual),
+        TokenKind::Equal => Some(ChainOperator::Equal),
+        TokenKind::NotEqual => Some(ChainOperator::NotEqual),
         _ => None,
     }
 }
 
 /// `+` or `-`.
 #[tactic(auto, unfolding(crate::specs::Reading::operator, crate::specs::Reading::token))]
-fn link_operator(tokens: &mut Cursor<'_>) -> Result<BinaryOperator, FormError>
+fn link_operator(tokens: &mut Cursor<'_>) -> Result<ChainOperator, FormError>
     ensures { Reads (spec.operator form.sum_operator tokens.old) result tokens.new }
 {
     match tokens.take() {
@@ -122,7 +124,7 @@ fn link_operator(tokens: &mut Cursor<'_>) -> Result<BinaryOperator, FormError>
 
 /// One of the six comparisons.
 #[tactic(auto, unfolding(crate::specs::Reading::operator, crate::specs::Reading::token))]
-fn comparison(tokens: &mut Cursor<'_>) -> Result<BinaryOperator, FormError>
+fn comparison(tokens: &mut Cursor<'_>) -> Result<ChainOperator, FormError>
     ensures { Reads (spec.operator form.comparison tokens.old) result tokens.new }
 {
     match tokens.take() {
@@ -225,7 +227,7 @@ impl<'r, 'v> Reader<'r, 'v> {
         let (_line, variable) = self.used(tokens)?;
         Ok(Typed {
             expr: TypedExpr::Variable(variable),
-            of: variable.of,
+            of: VectorType::Integer,
         })
     }
 
@@ -292,7 +294,7 @@ impl<'r, 'v> Reader<'r, 'v> {
             of = of.common(linked.1.of);
             found.push(TypedLink {
                 operator: linked.0,
-                works_in: of,
+                works_in: ValueType::Vector(of),
                 operand: linked.1.expr,
             })?;
         }
@@ -305,7 +307,7 @@ impl<'r, 'v> Reader<'r, 'v> {
         &self,
         tokens: &mut Cursor<'_>,
         levels: usize,
-    ) -> Result<(BinaryOperator, Typed), FormError>
+    ) -> Result<(ChainOperator, Typed), FormError>
         ensures { Reads (spec.sum_link (spec.operand self.now.names.now levels) tokens.old) result tokens.new }
     {
         let operator = link_operator(tokens)?;

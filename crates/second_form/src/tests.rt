@@ -42,7 +42,7 @@ const TREES: [(&str, &str); 10] = [
     ("program p { }", "1: program p 1: { }"),
     (
         "program p { integer i; integer s; i = 0; s = 0; while (i < 4) { s = s + i; i = i + 1; } printf(\"%0d\\n\", s - 10); }",
-        "1: program p 1: { 1: v0i; 1: v1i; 1: v0i = 32'0i; 1: v1i = 32'0i; 1: while [v0i <i 32'4i] 1: { 1: v1i = [v1i +i v0i]; 1: v0i = [v0i +i 32'1i]; }; 1: print \"%d\\n\" [v1i -i 32'10i]; }",
+        "1: program p 1: { 1: v0i; 1: v1i; 1: v0i = 32'0i; 1: v1i = 32'0i; 1: while [v0i <i 32'4i] 1: { 1: v1i = [v1i +i v0i]; 1: v0i = [v0i +i 32'1i]; }; 1: print \"%0d\\n\" [v1i -i 32'10i]; }",
     ),
     (
         "\n\nprogram\nname\n{\ninteger\nx\n;\n\tinteger y; x\n= 4294967295; }\n",
@@ -54,7 +54,7 @@ const TREES: [(&str, &str); 10] = [
     ),
     (
         "program p { integer a;\nwhile (a + 1 >= a)\n{\n{ } } while ((a) != 2) printf(\"%0d\\n\",\na); }",
-        "1: program p 1: { 1: v0i; 2: while [[v0i +i 32'1i] >=i v0i] 3: { 4: { }; }; 4: while [v0i !=i 32'2i] 4: print \"%d\\n\" v0i; }",
+        "1: program p 1: { 1: v0i; 2: while [[v0i +i 32'1i] >=i v0i] 3: { 4: { }; }; 4: while [v0i !=i 32'2i] 4: print \"%0d\\n\" v0i; }",
     ),
     (
         "program p { integer a; integer b; while (a == b) while (a <= b) while (a > b) b = a; }",
@@ -62,7 +62,7 @@ const TREES: [(&str, &str); 10] = [
     ),
     (
         "interface t {\n  input clk CLOCK;\n  output [1:0] d PHOLD #1;\n  input [1:0] q PSAMPLE #-1;\n}\nprogram p {\n  t.d = 2;\n  @(posedge t.clk);\n  printf(\"%0d\\n\", t.q);\n  t.d = 1;\n  t.d = 3;\n  @(posedge CLOCK);\n  printf(\"%0d\\n\", t.q);\n  @(posedge CLOCK);\n  printf(\"%0d\\n\", t.q);\n}\n",
-        "1: interface t { 2: in 1 clk clock; 3: out 2 d hold; 4: in 2 q sample; } 6: program p 6: { 7: s1w2 = 32'2i; 8: edge; 9: print \"%d\\n\" s2w2; 10: s1w2 = 32'1i; 11: s1w2 = 32'3i; 12: edge; 13: print \"%d\\n\" s2w2; 14: edge; 15: print \"%d\\n\" s2w2; }",
+        "1: interface t { 2: in 1 clk clock; 3: out 2 d hold; 4: in 2 q sample; } 6: program p 6: { 7: s1w2 = 32'2i; 8: edge; 9: print \"%0d\\n\" s2w2; 10: s1w2 = 32'1i; 11: s1w2 = 32'3i; 12: edge; 13: print \"%0d\\n\" s2w2; 14: edge; 15: print \"%0d\\n\" s2w2; }",
     ),
     (
         "interface t { input c CLOCK; } program p { }",

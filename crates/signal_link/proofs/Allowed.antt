@@ -1,5 +1,5 @@
 -- Whether a signal links, by the marks of its nets.
-use Rattle.std.proofs.Common.{◌≡◌, ℕ, Bool, true, false, List, refl, sym, ◌∙◌, ap, subst, All}
+use Rattle.std.proofs.Common.{◌≡◌, ◌≢◌, ℕ, Bool, true, false, List, refl, sym, ◌∙◌, ap, subst, All}
 use Rattle.std.specs.Prelude.{slice_index_or}
 use Rattle.std.specs.Bool.{Decides}
 use Rattle.std.specs.List.{list_all}
@@ -7,7 +7,7 @@ use Rattle.std.proofs.lemmas.Bool.Decides.{Decides-by_and, Decides-at}
 use Rattle.vera_ast.specs.declared.tree.interfaces.Direction.{Direction}
 use Rattle.vera_ast.specs.declared.tree.interfaces.Direction.TheVariants.{Input, Output}
 use Rattle.vera_ast.specs.declared.typed.interface.TypedSignalKind.{TypedSignalKind}
-use Rattle.vera_ast.specs.declared.typed.interface.TypedSignalKind.TheVariants.{Clock, PositiveHold, PositiveSample}
+use Rattle.vera_ast.specs.declared.typed.interface.TypedSignalKind.TheVariants.{Clock}
 use Rattle.vera_ast.specs.declared.typed.interface.TypedSignal.{TypedSignal}
 use Rattle.blif_read.specs.Netlists.{Parts}
 use Rattle.run_rules.specs.Links.{IsDrivable, IsSampled, HasClockName, LinksAs, Links}
@@ -35,19 +35,13 @@ clock_output_allowed p s nets r e o is d =
     let used : Decides r (UsedAs p Output nets) = subst (λ (x : Direction). Decides r (UsedAs p x nets)) o d in
     subst (Allows p s r) (sym e) (subst (λ (x : Direction). Decides r (LinksAs p s Clock x)) (sym o) (subst (λ (ns : List ℕ). Decides r (All (IsDrivable p) ns)) is used))
 
-hold_by : (p : Parts) (s : TypedSignal) (r : Bool) (d : Direction) → Decides r (UsedAs p d (nets_of p.nets s)) → Decides r (LinksAs p s PositiveHold d)
-hold_by p s r Input h = h
-hold_by p s r Output h = h
+other_by : (p : Parts) (s : TypedSignal) (r : Bool) (kind : TypedSignalKind) (d : Direction) → kind ≢ Clock → Decides r (UsedAs p d (nets_of p.nets s)) → Decides r (LinksAs p s kind d)
+other_by p s r Clock d other h = absurd (other refl)
+other_by p s r kind Input other h = h
+other_by p s r kind Output other h = h
 
-sample_by : (p : Parts) (s : TypedSignal) (r : Bool) (d : Direction) → Decides r (UsedAs p d (nets_of p.nets s)) → Decides r (LinksAs p s PositiveSample d)
-sample_by p s r Input h = h
-sample_by p s r Output h = h
-
-pub hold_allowed : (p : Parts) (s : TypedSignal) (nets : List ℕ) (r : Bool) → s.kind ≡ PositiveHold → nets ≡ nets_of p.nets s → Decides r (UsedAs p s.direction nets) → Decides r (Links p s)
-hold_allowed p s nets r e is d = subst (Allows p s r) (sym e) (hold_by p s r s.direction (subst (λ (ns : List ℕ). Decides r (UsedAs p s.direction ns)) is d))
-
-pub sample_allowed : (p : Parts) (s : TypedSignal) (nets : List ℕ) (r : Bool) → s.kind ≡ PositiveSample → nets ≡ nets_of p.nets s → Decides r (UsedAs p s.direction nets) → Decides r (Links p s)
-sample_allowed p s nets r e is d = subst (Allows p s r) (sym e) (sample_by p s r s.direction (subst (λ (ns : List ℕ). Decides r (UsedAs p s.direction ns)) is d))
+pub other_allowed : (p : Parts) (s : TypedSignal) (nets : List ℕ) (r : Bool) → s.kind ≢ Clock → nets ≡ nets_of p.nets s → Decides r (UsedAs p s.direction nets) → Decides r (Links p s)
+other_allowed p s nets r other is d = other_by p s r s.kind s.direction other (subst (λ (ns : List ℕ). Decides r (UsedAs p s.direction ns)) is d)
 
 -- ---- by the direction
 

@@ -1,10 +1,9 @@
 -- The signals of items, one item after the other.
-use Rattle.std.proofs.Common.{◌≡◌, ℕ, ◌+◌, ◌<◌, List, [], ◌∷◌, ◌++◌, length, map, take, drop, get_or, ◌≤◌, refl, sym, ◌∙◌, ap, append_assoc, append-nil, Some, arith}
+use Rattle.std.proofs.Common.{◌≡◌, ◌≢◌, ℕ, ◌+◌, ◌<◌, List, [], ◌∷◌, ◌++◌, length, map, take, drop, get_or, ◌≤◌, refl, sym, ◌∙◌, ap, append_assoc, append-nil, Some, arith}
 use Rattle.std.specs.Prelude.{codes}
 use Rattle.std.proofs.lemmas.List.{map-append, take_more, take-append-drop}
 use Rattle.vera_ast.specs.declared.typed.file.TypedItem.{TypedItem}
-use Rattle.vera_ast.specs.declared.typed.file.TypedItem.TheVariants.{Interface, Program}
-use Rattle.vera_ast.specs.declared.typed.file.TypedProgram.{TypedProgram}
+use Rattle.vera_ast.specs.declared.typed.file.TypedItem.TheVariants.{Interface}
 use Rattle.vera_ast.specs.declared.typed.interface.TypedInterface.{TypedInterface}
 use Rattle.vera_ast.specs.declared.typed.interface.TypedSignal.{TypedSignal}
 use Rattle.vera_ast.specs.Signals.{NamedSignal, signals_in}
@@ -14,7 +13,7 @@ use Rattle.signal_link.specs.Linking.{named}
 signals-append : (xs ys : List TypedItem) → signals_in (xs ++ ys) ≡ signals_in xs ++ signals_in ys
 signals-append [] ys = refl
 signals-append (Interface i ∷ xs) ys = ap (λ t. map (named i.name) i.signals ++ t) (signals-append xs ys) ∙ sym (append_assoc (map (named i.name) i.signals) (signals_in xs) (signals_in ys))
-signals-append (Program p ∷ xs) ys = signals-append xs ys
+signals-append (other ∷ xs) ys = signals-append xs ys
 
 -- the signals of one more item
 pub signals-more : (items : List TypedItem) (i : ℕ) (item : TypedItem) → i < length items → item ≡ get_or items i item → signals_in (take (i + 1) items) ≡ signals_in (take i items) ++ signals_in (item ∷ [])
@@ -42,8 +41,9 @@ item_names item i is = interface_names i ∙ ap (λ (x : TypedItem). map (λ s. 
 pub interface_signals : (item : TypedItem) (i : TypedInterface) (signals : List TypedSignal) → item ≡ Interface i → signals ≡ i.signals → map (named i.name) signals ≡ signals_in (item ∷ [])
 interface_signals item i signals is e = ap (map (named i.name)) e ∙ sym (append-nil (map (named i.name) i.signals)) ∙ ap (λ (x : TypedItem). signals_in (x ∷ [])) (sym is)
 
-pub program_signals : (known : List NamedSignal) (item : TypedItem) (q : TypedProgram) → item ≡ Program q → known ≡ known ++ signals_in (item ∷ [])
-program_signals known item q is = sym (append-nil known) ∙ ap (λ (x : TypedItem). known ++ signals_in (x ∷ [])) (sym is)
+pub other_signals : (known : List NamedSignal) (item : TypedItem) → ((i : TypedInterface) → item ≢ Interface i) → known ≡ known ++ signals_in (item ∷ [])
+other_signals known (Interface i) other = absurd (other i refl)
+other_signals known item other = sym (append-nil known)
 
 pub signals-rest : (items : List TypedItem) (i : ℕ) (item : TypedItem) → i < length items → item ≡ get_or items i item → (signals_in (take i items) ++ signals_in (item ∷ [])) ++ signals_in (drop (i + 1) items) ≡ signals_in items
 signals-rest items i item lt is =

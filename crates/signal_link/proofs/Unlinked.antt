@@ -4,7 +4,7 @@ use Rattle.std.specs.Prelude.{Contains}
 use Rattle.vera_ast.specs.declared.tree.interfaces.Direction.{Direction}
 use Rattle.vera_ast.specs.declared.tree.interfaces.Direction.TheVariants.{Input, Output}
 use Rattle.vera_ast.specs.declared.typed.interface.TypedSignalKind.{TypedSignalKind}
-use Rattle.vera_ast.specs.declared.typed.interface.TypedSignalKind.TheVariants.{Clock, PositiveHold, PositiveSample}
+use Rattle.vera_ast.specs.declared.typed.interface.TypedSignalKind.TheVariants.{Clock}
 use Rattle.vera_ast.specs.declared.typed.interface.TypedSignal.{TypedSignal}
 use Rattle.blif_read.specs.Netlists.{Parts}
 use Rattle.run_rules.specs.Links.{IsDrivable, IsSampled, LinksAs, Links}
@@ -36,11 +36,8 @@ none_sampled p s h all =
 
 clock_by : (p : Parts) (s : TypedSignal) (k : TypedSignalKind) (d : Direction) → HasNoNets p → LinksAs p s k d → (k ≡ Clock) × (d ≡ Input)
 clock_by p s Clock Input h l = (refl, refl)
-clock_by p s Clock Output h l = absurd (none_drivable p s h l)
-clock_by p s PositiveHold Output h l = absurd (none_drivable p s h l)
-clock_by p s PositiveHold Input h l = absurd (none_sampled p s h l)
-clock_by p s PositiveSample Output h l = absurd (none_drivable p s h l)
-clock_by p s PositiveSample Input h l = absurd (none_sampled p s h l)
+clock_by p s kind Output h l = absurd (none_drivable p s h l)
+clock_by p s kind Input h l = absurd (none_sampled p s h l)
 
 clock_links : (p : Parts) (s : TypedSignal) → HasNoNets p → LinksAs p s Clock Input
 clock_links p s h = λ net is. absurd (let bad = sym h.clock ∙ is in cc)

@@ -33,7 +33,7 @@ fn push_item_labels(names: &mut Vec<Text>, item: &TypedItem) -> Result<(), NoMem
 {
     match item {
         TypedItem::Interface(interface) => push_labels(names, interface),
-        TypedItem::Program(_) => Ok(()),
+        _ => Ok(()),
     }
 }
 

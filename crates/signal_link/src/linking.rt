@@ -146,7 +146,7 @@ impl Linker {
             TypedItem::Interface(interface) => {
                 self.link_signals(alloc, interface.signals.as_slice(), found)
             }
-            TypedItem::Program(_) => Ok(()),
+            _ => Ok(()),
         }
     }
 }

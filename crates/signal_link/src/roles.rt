@@ -141,8 +141,7 @@ impl Roles {
                 Direction::Input => self.allow_clock(signal.name.as_slice()),
                 Direction::Output => self.allow_nets(signal.direction, nets),
             },
-            TypedSignalKind::PositiveHold => self.allow_nets(signal.direction, nets),
-            TypedSignalKind::PositiveSample => self.allow_nets(signal.direction, nets),
+            _ => self.allow_nets(signal.direction, nets),
         }
     }
 }

@@ -23,6 +23,7 @@ size_of-free (Do (While' line condition p body)) rest free = absurd cc
 size_of-free (Do (Printf p)) rest free = absurd cc
 size_of-free (Do (Drive d)) rest free = absurd cc
 size_of-free (Do (Edge e)) rest free = absurd cc
+size_of-free (Do other) rest free = less_plus 0 (size_of rest) (size_of rest) (sym (zero-add (size_of rest)))
 size_of-free (Again line condition body) rest free = absurd cc
 
 -- what comes after the first item
@@ -34,7 +35,7 @@ beyond free? here later free i rest exit left =
 gone_on-same : (exit : Exit) (items : List Item) (s t : Tree Rest) → s ≡ t → gone_on exit items s ≡ gone_on exit items t
 gone_on-same exit items s t e = ap (gone_on exit items) e
 
-first_free : (here : Here) (later : List Item → ℕ → Tree Rest) (free : ℕ) (i : Item) (rest : List Item) (ticks : ℕ) → is_free i ≡ true → until_tick here later (suc free) (i ∷ rest) ticks ≡ until_tick here later free (rest_at i rest Inside) ticks
+pub first_free : (here : Here) (later : List Item → ℕ → Tree Rest) (free : ℕ) (i : Item) (rest : List Item) (ticks : ℕ) → is_free i ≡ true → until_tick here later (suc free) (i ∷ rest) ticks ≡ until_tick here later free (rest_at i rest Inside) ticks
 first_free here later free i rest ticks e =
     ap (λ b. take_item here i ticks (beyond b here later free i rest)) e ∙ item-free here i ticks (beyond true here later free i rest) e
 

@@ -1,5 +1,5 @@
 -- A statement as the code sees it, and as the definitions match on it.
-use Rattle.std.proofs.Common.{◌≡◌, ℕ, suc, ◌+◌, List, [], ◌∷◌, ◌++◌, map, true, false, refl, ap, sym, ◌∙◌, zero-add, add_assoc, arith}
+use Rattle.std.proofs.Common.{◌≡◌, ℕ, List, [], ◌∷◌, ◌++◌, map, true, false, refl, ap}
 use Rattle.slice_core.specs.Tree.{Tree}
 use Rattle.vera_ast.specs.declared.typed.stmt.TypedBlock.{TypedBlock}
 use Rattle.vera_ast.specs.declared.typed.stmt.TypedStmt.{TypedStmt}
@@ -8,7 +8,7 @@ use Rattle.vera_ast.specs.declared.typed.stmt.TypedStmt.TheBlock.{hidden-the_row
 use Rattle.vera_ast.specs.declared.typed.stmt.TypedWhile.{TypedWhile}
 use Rattle.vera_meaning.specs.Rests.{Here, Item, Do, Again, Rest}
 use Rattle.vera_meaning.specs.Expressions.{tick}
-use Rattle.vera_meaning.specs.Statements.{Exit, Inside, take_stmt, do_all, inside, is_free, stmt_size, stmts_size, size_of}
+use Rattle.vera_meaning.specs.Statements.{Exit, Inside, take_stmt, do_all, inside, is_free}
 
 pub take_stmt-block : (here : Here) (b : TypedBlock) (ticks : ℕ) (next : Exit → ℕ → Tree Rest) → take_stmt here (views.Block b) ticks next ≡ next Inside ticks
 unfolding Rattle.vera_ast.specs.declared.typed.stmt.TypedStmt.TheViews.roll-TypedStmt denote.Hole.Carrier.roll denote.Hole.Carrier.hidden
@@ -38,16 +38,3 @@ do_all_row (s ∷ stmts) rest = ap (λ items. Do s ∷ items) (do_all_row stmts 
 pub inside-block : (b : TypedBlock) (rest : List Item) → inside (views.Block b) rest ≡ map Do b.stmts ++ rest
 unfolding Rattle.vera_ast.specs.declared.typed.stmt.TypedStmt.TheViews.roll-TypedStmt denote.Hole.Carrier.roll denote.Hole.Carrier.hidden
 inside-block b rest = do_all_row b.stmts rest
-
-size_row : (stmts : List TypedStmt) (rest : List Item) → size_of (map Do stmts ++ rest) ≡ stmts_size (row stmts) + size_of rest
-unfolding Rattle.vera_ast.specs.declared.typed.stmt.TypedStmt.TheBlock.hidden-the_row-TypedStmt-0 denote.Hole.Carrier.roll denote.Hole.Carrier.hidden
-size_row [] rest = sym (zero-add (size_of rest))
-size_row (s ∷ stmts) rest = ap (λ n. stmt_size s + n) (size_row stmts rest) ∙ sym (add_assoc (stmt_size s) (stmts_size (row stmts)) (size_of rest))
-
-suc_plus : (m n k : ℕ) → k ≡ m + n → suc m + n ≡ suc k
-suc_plus m n k e = omega arith
-
--- what a block has inside is smaller by one
-pub size_of-block : (b : TypedBlock) (rest : List Item) → size_of (Do (views.Block b) ∷ rest) ≡ suc (size_of (map Do b.stmts ++ rest))
-unfolding Rattle.vera_ast.specs.declared.typed.stmt.TypedStmt.TheViews.roll-TypedStmt denote.Hole.Carrier.roll denote.Hole.Carrier.hidden
-size_of-block b rest = suc_plus (stmts_size (row b.stmts)) (size_of rest) (size_of (map Do b.stmts ++ rest)) (size_row b.stmts rest)

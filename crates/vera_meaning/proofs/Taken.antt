@@ -1,9 +1,13 @@
 -- What a slice does with each kind of item that stands first.
-use Rattle.std.proofs.Common.{◌≡◌, ℕ, suc, List, ◌∷◌, ◌++◌, map, Bool, true, false, if◌then◌else◌, refl, ap, ◌∙◌}
+use Rattle.std.proofs.Common.{◌≡◌, ℕ, suc, List, ◌∷◌, ◌++◌, map, Some, None, Bool, true, false, if◌then◌else◌, refl, ap, ◌∙◌}
+use Rattle.store_api.specs.declared.loc.Loc.{Loc}
 use Rattle.store_api.specs.declared.val.Val.TheVariants.{Bits}
 use Rattle.slice_core.specs.Tree.{Tree, Puts, Emits, Prints, Drives, Ends, Ended, Spent, Cycle}
 use Rattle.vera_ast.specs.declared.typed.expr.TypedExpr.{TypedExpr}
+use Rattle.vera_ast.specs.declared.typed.names.TypedVariable.{TypedVariable}
+use Rattle.vera_ast.specs.declared.typed.place.TypedPlace.TheVariants as places
 use Rattle.vera_ast.specs.declared.typed.stmt.TypedBlock.{TypedBlock}
+use Rattle.vera_ast.specs.declared.typed.stmt.TypedChange.TheVariants.{Assign}
 use Rattle.vera_ast.specs.declared.typed.stmt.TypedDrive.{TypedDrive}
 use Rattle.vera_ast.specs.declared.typed.stmt.TypedEdge.{TypedEdge}
 use Rattle.vera_ast.specs.declared.typed.stmt.TypedPrintf.{TypedPrintf}
@@ -12,12 +16,14 @@ use Rattle.vera_ast.specs.declared.typed.stmt.TypedStmt.{TypedStmt}
 use Rattle.vera_ast.specs.declared.typed.stmt.TypedStmt.TheVariants.{Step, Printf, Drive, Edge}
 use Rattle.vera_ast.specs.declared.typed.stmt.TypedStmt.TheViews.{Block, While}
 use Rattle.vera_ast.specs.declared.typed.stmt.TypedWhile.{TypedWhile}
+use Rattle.vera_ast.specs.declared.typed.types.ValueType.TheVariants.{Vector}
 use Rattle.vera_ast.specs.declared.typed.types.VectorType.TheVariants as types
+use Rattle.vera_ast.specs.ExprTypes.{type_of}
 use Rattle.vera_meaning.specs.Rests.{Here, Item, Do, Again, Rest, nothing_left}
 use Rattle.vera_meaning.specs.Operators.{fitted, is_true}
 use Rattle.vera_meaning.specs.Formats.{formatted}
-use Rattle.vera_meaning.specs.Expressions.{place_of, type_of, value, arguments}
-use Rattle.vera_meaning.specs.Statements.{Exit, After, Inside, rest_at, gone_on}
+use Rattle.vera_meaning.specs.Expressions.{place_of, value, arguments}
+use Rattle.vera_meaning.specs.Statements.{Exit, After, Inside, written_at, driven, rest_at, gone_on}
 use Rattle.vera_meaning.specs.Slices.{slice_of}
 use Rattle.vera_meaning.proofs.Bounds.{slice_of-item}
 use Rattle.vera_meaning.proofs.StatementViews.{take_stmt-block, take_stmt-while, inside-block, inside-while}
@@ -43,8 +49,10 @@ slice_of-block here b rest budget =
 pub step-spent : (here : Here) (s : TypedStep) (rest : List Item) → slice_of here (record { agenda = Do (Step s) ∷ rest }) 0 ≡ Ends Spent nothing_left
 step-spent here s rest = slice_of-item here (Do (Step s)) rest 0
 
-pub step-done : (here : Here) (s : TypedStep) (rest : List Item) (ticks : ℕ) → slice_of here (record { agenda = Do (Step s) ∷ rest }) (suc ticks) ≡ value s.value ticks (λ bits left. Puts (place_of s.target.place) (Bits (fitted (type_of s.value) s.target.of bits)) (slice_of here (record { agenda = rest }) left))
-step-done here s rest ticks = slice_of-item here (Do (Step s)) rest (suc ticks)
+pub step-done : (here : Here) (line : ℕ) (v : TypedVariable) (l : Loc) (e : TypedExpr) (rest : List Item) (ticks : ℕ) → place_of v.place ≡ Some l → slice_of here (record { agenda = Do (Step (record { line = line; target = places.Variable v; change = Assign e })) ∷ rest }) (suc ticks) ≡ value e ticks (λ bits left. Puts l (Bits (fitted (type_of e) v.of bits)) (slice_of here (record { agenda = rest }) left))
+step-done here line v l e rest ticks built =
+    slice_of-item here (Do (Step (record { line = line; target = places.Variable v; change = Assign e }))) rest (suc ticks)
+    ∙ ap (λ o. value e ticks (λ bits left. written_at o (fitted (type_of e) v.of bits) (slice here rest left))) built
 
 pub printf-spent : (here : Here) (p : TypedPrintf) (rest : List Item) → slice_of here (record { agenda = Do (Printf p) ∷ rest }) 0 ≡ Ends Spent nothing_left
 printf-spent here p rest = slice_of-item here (Do (Printf p)) rest 0
@@ -55,8 +63,10 @@ printf-done here p rest ticks = slice_of-item here (Do (Printf p)) rest (suc tic
 pub drive-spent : (here : Here) (d : TypedDrive) (rest : List Item) → slice_of here (record { agenda = Do (Drive d) ∷ rest }) 0 ≡ Ends Spent nothing_left
 drive-spent here d rest = slice_of-item here (Do (Drive d)) rest 0
 
-pub drive-done : (here : Here) (d : TypedDrive) (rest : List Item) (ticks : ℕ) → slice_of here (record { agenda = Do (Drive d) ∷ rest }) (suc ticks) ≡ value d.value ticks (λ bits left. Emits (Drives here.cycle d.target.number (fitted (type_of d.value) (types.Bits d.target.width) bits)) (slice_of here (record { agenda = rest }) left))
-drive-done here d rest ticks = slice_of-item here (Do (Drive d)) rest (suc ticks)
+pub drive-done : (here : Here) (d : TypedDrive) (rest : List Item) (ticks : ℕ) → d.delay ≡ None → slice_of here (record { agenda = Do (Drive d) ∷ rest }) (suc ticks) ≡ value d.value ticks (λ bits left. Emits (Drives here.cycle d.target.number (fitted (type_of d.value) (Vector (types.Bits d.target.width)) bits)) (slice_of here (record { agenda = rest }) left))
+drive-done here d rest ticks built =
+    slice_of-item here (Do (Drive d)) rest (suc ticks)
+    ∙ ap (λ o. driven here d.target o d.value ticks (slice here rest)) built
 
 pub edge-spent : (here : Here) (e : TypedEdge) (rest : List Item) → slice_of here (record { agenda = Do (Edge e) ∷ rest }) 0 ≡ Ends Spent nothing_left
 edge-spent here e rest = slice_of-item here (Do (Edge e)) rest 0

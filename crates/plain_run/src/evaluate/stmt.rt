@@ -3,6 +3,9 @@ ghost use Rattle.slice_core.specs.Walks.{End};
 ghost use Rattle.vera_meaning.specs.Rests.{Here, Item, Do, Rest};
 ghost use Rattle.vera_meaning.specs.Formats.{formatted};
 ghost use Rattle.vera_ast.specs.declared.typed.stmt.TypedStmt.TheVariants as stmts;
+ghost use Rattle.vera_ast.specs.declared.typed.place.TypedPlace.TheVariants as places;
+ghost use Rattle.vera_ast.specs.declared.typed.stmt.TypedChange.TheVariants as changes;
+ghost use Rattle.plain_run.specs.Gives.{Changes};
 ghost use Rattle.plain_run.specs.Going.{IsAt};
 ghost use Rattle.plain_run.specs.Logs.{Told, told};
 ghost use Rattle.plain_run.specs.Taking.{TakenSo};
@@ -16,7 +19,10 @@ use super::{expr, print};
 use four_state::NoMemory;
 use run_rules::Drive;
 use std::alloc::Global;
-use vera_ast::{TypedDrive, TypedPrintf, TypedStep};
+use vera_ast::{
+    TypedChange, TypedDrive, TypedExpr, TypedPlace, TypedPrintf, TypedStep, TypedVariable,
+    ValueType, VectorType,
+};
 
 /// Whether a slice goes on behind something that was done, or its thread waits for an edge.
 #[derive(Clone, Copy, Debug, PartialEq, Eq)]
@@ -55,17 +61,40 @@ pub fn take<'a>(
     Ok(Taken::GoesOn)
 }
 
-/// A variable takes a value.
+/// A place is changed.
 fn take_step(step: &TypedStep, values: &mut Values) -> Result<(), NoMemory>
     ensures { OnOk result ((here : Here) (goal : End Rest) (start log : Told) (rest : List Item) (ticks : ℕ)
         → IsAt here goal start log (Do (stmts.Step step.now) ∷ rest) (suc ticks) (contents_of values.old)
         → IsAt here goal start log rest ticks (contents_of values.new)) }
 {
-    let value = expr::value(&step.value, values);
-    let bits = value
-        .bits
-        .extend(step.target.of.width(), value.of.is_signed());
-    values.set_variable(step.target.place, bits)?;
+    change(&step.target, &step.change, values)?;
+    Ok(())
+}
+
+/// Changes a place. Other changes than an assignment to a variable aren't built: nothing is changed.
+fn change(target: &TypedPlace, change: &TypedChange, values: &mut Values) -> Result<(), NoMemory>
+    ensures { OnOk result (Changes target.now change.now (contents_of values.old) (contents_of values.new)) }
+{
+    match target {
+        TypedPlace::Variable(variable) => match change {
+            TypedChange::Assign(value) => assign(variable, value, values)?,
+            _ => {}
+        },
+        _ => {}
+    }
+    Ok(())
+}
+
+/// A variable takes a value.
+fn assign(
+    variable: &TypedVariable,
+    assigned: &TypedExpr,
+    values: &mut Values,
+) -> Result<(), NoMemory>
+    ensures { OnOk result (Changes (places.Variable variable.now) (changes.Assign assigned.now) (contents_of values.old) (contents_of values.new)) }
+{
+    let value = expr::value(assigned, values);
+    values.set_variable(variable.place, value.fitted(variable.of))?;
     Ok(())
 }
 
@@ -91,7 +120,7 @@ fn take_printf(
     Ok(())
 }
 
-/// A drive is due in the present cycle.
+/// A drive is due in the present cycle. One with a delay isn't built: it is never due.
 fn take_drive(
     drive: &TypedDrive,
     cycle: u64,
@@ -103,14 +132,16 @@ fn take_drive(
         → IsAt (record { thread = 1; cycle = cycle }) goal start log (Do (stmts.Drive drive.now) ∷ rest) (suc ticks) (contents_of values.now)
         → IsAt (record { thread = 1; cycle = cycle }) goal start (record log { due = due.new.items }) rest ticks (contents_of values.now)) }
 {
-    let value = expr::value(&drive.value, values);
-    let bits = value
-        .bits
-        .extend(drive.target.width.bits, value.of.is_signed());
-    due.push(Drive {
-        cycle,
-        signal: drive.target.number,
-        bits,
-    })?;
-    Ok(())
+    match &drive.delay {
+        Some(_) => Ok(()),
+        None => {
+            let value = expr::value(&drive.value, values);
+            due.push(Drive {
+                cycle,
+                signal: drive.target.number,
+                bits: value.fitted(ValueType::Vector(VectorType::Bits(drive.target.width))),
+            })?;
+            Ok(())
+        }
+    }
 }

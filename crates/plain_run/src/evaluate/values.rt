@@ -4,7 +4,7 @@ ghost use Rattle.store_api.specs.declared.val.Val.TheVariants.{Bits};
 ghost use Rattle.store_api.specs.Places.{nothing_written};
 ghost use Rattle.slice_core.specs.Walks.{put_at};
 ghost use Rattle.vera_meaning.specs.Expressions.{place_of};
-ghost use Rattle.plain_run.specs.Values.{contents_of, value_at};
+ghost use Rattle.plain_run.specs.Values.{contents_of, value_at, found_at, written};
 
 use four_state::{NoMemory, Vec4};
 use std::alloc::Global;
@@ -29,12 +29,14 @@ impl Values {
         }
     }
 
-    /// The value of a variable, where it was written.
+    /// The value of a variable, where it was written. One that isn't built has none.
     pub fn variable(&self, place: VariablePlace) -> Option<Vec4>
-        ensures { option_map Bits result ≡ contents_of self.now (place_of place) }
+        ensures { option_map Bits result ≡ found_at (contents_of self.now) (place_of place) }
     {
-        let VariablePlace::Program(number) = place;
-        at(self.variables.as_slice(), number)
+        match place {
+            VariablePlace::Program(number) => at(self.variables.as_slice(), number),
+            _ => None,
+        }
     }
 
     /// The latest sample of a signal, where there is one.
@@ -44,12 +46,14 @@ impl Values {
         at(self.samples.as_slice(), signal)
     }
 
-    /// Writes a variable. It takes memory where the variable's number is above all that were written.
+    /// Writes a variable, where it is built. It takes memory where the variable's number is above all that were written.
     pub fn set_variable(&mut self, place: VariablePlace, value: Vec4) -> Result<(), NoMemory>
-        ensures { OnOk result (contents_of self.new ≡ put_at (contents_of self.old) (place_of place) (Bits value)) }
+        ensures { OnOk result (contents_of self.new ≡ written (place_of place) value (contents_of self.old)) }
     {
-        let VariablePlace::Program(number) = place;
-        put(&mut self.variables, number as usize, value)
+        match place {
+            VariablePlace::Program(number) => put(&mut self.variables, number as usize, value),
+            _ => Ok(()),
+        }
     }
 
     /// Takes a sample of a signal. It takes memory where the signal's number is above all that were sampled.

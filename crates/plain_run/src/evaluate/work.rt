@@ -28,10 +28,12 @@ pub enum Timed<'a> {
     Test(&'a TypedWhile),
 }
 
-/// What a piece of work is at its front: a block, or something that takes a tick.
+/// What a piece of work is at its front: a block, something that takes a tick, or nothing. An empty statement is
+/// nothing, and so is one that isn't built.
 enum Front<'a> {
     Block(&'a TypedBlock),
     Timed(Timed<'a>),
+    Nothing,
 }
 
 /// Puts a block's statements in front of what is to do.
@@ -60,6 +62,7 @@ fn front_of(work: Work<'_>) -> Front<'_>
             TypedStmt::Printf(printf) => Front::Timed(Timed::Printf(printf)),
             TypedStmt::Drive(drive) => Front::Timed(Timed::Drive(drive)),
             TypedStmt::Edge(edge) => Front::Timed(Timed::Edge(edge)),
+            _ => Front::Nothing,
         },
     }
 }
@@ -73,6 +76,7 @@ pub fn next_timed<'a>(agenda: &mut Vec<Work<'a>>) -> Result<Option<Timed<'a>>, N
         match front_of(work) {
             Front::Block(block) => push_all(agenda, block)?,
             Front::Timed(timed) => return Ok(Some(timed)),
+            Front::Nothing => {}
         }
     }
     Ok(None)

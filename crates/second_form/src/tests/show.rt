@@ -3,21 +3,23 @@
 use four_state::Text;
 use std::alloc::{AllocError, Global};
 use vera_ast::{
-    BinaryOperator, Direction, FormatPart, TypedBlock, TypedDecl, TypedExpr, TypedInterface,
-    TypedItem, TypedPrintf, TypedSignalKind, TypedSignalName, TypedStmt, TypedTree, TypedVariable,
-    VariablePlace, VectorType,
+    ChainOperator, Conversion, ConversionLetter, DeclaredVariable, Direction, DriveOperator,
+    FormatPart, TypedBlock, TypedChange, TypedDecl, TypedDrive, TypedExpr, TypedInterface,
+    TypedItem, TypedPlace, TypedPrintf, TypedSignalKind, TypedSignalName, TypedStep, TypedStmt,
+    TypedTree, ValueType, VariablePlace, VariableType, VectorType,
 };
 
-fn operator(operator: BinaryOperator) -> &'static str {
+fn operator(operator: ChainOperator) -> &'static str {
     match operator {
-        BinaryOperator::Add => "+",
-        BinaryOperator::Subtract => "-",
-        BinaryOperator::Less => "<",
-        BinaryOperator::LessEqual => "<=",
-        BinaryOperator::Greater => ">",
-        BinaryOperator::GreaterEqual => ">=",
-        BinaryOperator::Equal => "==",
-        BinaryOperator::NotEqual => "!=",
+        ChainOperator::Add => "+",
+        ChainOperator::Subtract => "-",
+        ChainOperator::Less => "<",
+        ChainOperator::LessEqual => "<=",
+        ChainOperator::Greater => ">",
+        ChainOperator::GreaterEqual => ">=",
+        ChainOperator::Equal => "==",
+        ChainOperator::NotEqual => "!=",
+        _ => "?",
     }
 }
 
@@ -25,6 +27,13 @@ fn kind(alloc: Global, of: VectorType) -> Result<String, AllocError> {
     match of {
         VectorType::Integer => format!(in alloc; "i"),
         VectorType::Bits(width) => format!(in alloc; "b{}", width.bits),
+    }
+}
+
+fn value_kind(alloc: Global, of: ValueType) -> Result<String, AllocError> {
+    match of {
+        ValueType::Vector(of) => kind(alloc, of),
+        _ => format!(in alloc; "?"),
     }
 }
 
@@ -44,6 +53,8 @@ fn signal_kind(kind: TypedSignalKind) -> &'static str {
         TypedSignalKind::Clock => "clock",
         TypedSignalKind::PositiveHold => "hold",
         TypedSignalKind::PositiveSample => "sample",
+        TypedSignalKind::NegativeHold => "negative hold",
+        TypedSignalKind::NegativeSample => "negative sample",
     }
 }
 
@@ -74,9 +85,19 @@ fn interface(alloc: Global, out: &mut String, x: &TypedInterface) -> Result<(), 
     out.push_str("} ")
 }
 
-fn variable(alloc: Global, out: &mut String, variable: TypedVariable) -> Result<(), AllocError> {
-    let VariablePlace::Program(number) = variable.place;
-    out.push_str(format!(in alloc; "v{number}{}", kind(alloc, variable.of)?)?.as_str())
+/// A variable of the program, with its number and its type.
+fn variable(
+    alloc: Global,
+    out: &mut String,
+    place: VariablePlace,
+    of: ValueType,
+) -> Result<(), AllocError> {
+    match place {
+        VariablePlace::Program(number) => {
+            out.push_str(format!(in alloc; "v{number}{}", value_kind(alloc, of)?)?.as_str())
+        }
+        _ => out.push_str("?"),
+    }
 }
 
 /// A number with its width, a variable with its number, a chain in brackets.
@@ -91,7 +112,7 @@ fn expr(alloc: Global, out: &mut String, x: &TypedExpr) -> Result<(), AllocError
             )?;
             out.push_str(text.as_str())
         }
-        TypedExpr::Variable(named) => variable(alloc, out, *named),
+        TypedExpr::Variable(named) => variable(alloc, out, named.place, named.of),
         TypedExpr::Sample(named) => signal(alloc, out, *named),
         TypedExpr::Chain(first, links) => {
             out.push_str("[")?;
@@ -99,18 +120,33 @@ fn expr(alloc: Global, out: &mut String, x: &TypedExpr) -> Result<(), AllocError
             for link in links.as_slice() {
                 out.push_str(" ")?;
                 out.push_str(operator(link.operator))?;
-                out.push_str(kind(alloc, link.works_in)?.as_str())?;
+                out.push_str(value_kind(alloc, link.works_in)?.as_str())?;
                 out.push_str(" ")?;
                 expr(alloc, out, &link.operand)?;
             }
             out.push_str("]")
         }
+        _ => out.push_str("?"),
     }
 }
 
-fn format_part(out: &mut String, part: &FormatPart) -> Result<(), AllocError> {
+/// `%`, an optional `0`, an optional width, and a letter.
+fn conversion(alloc: Global, out: &mut String, conversion: Conversion) -> Result<(), AllocError> {
+    out.push_str(if conversion.zero { "%0" } else { "%" })?;
+    if let Some(width) = conversion.width {
+        out.push_str(format!(in alloc; "{width}")?.as_str())?;
+    }
+    out.push_str(match conversion.letter {
+        ConversionLetter::Decimal => "d",
+        ConversionLetter::Binary => "b",
+        ConversionLetter::Hexadecimal => "h",
+        ConversionLetter::Str => "s",
+    })
+}
+
+fn format_part(alloc: Global, out: &mut String, part: &FormatPart) -> Result<(), AllocError> {
     match part {
-        FormatPart::Decimal => out.push_str("%d"),
+        FormatPart::Conversion(found) => conversion(alloc, out, *found),
         FormatPart::Bytes(bytes) => {
             for byte in bytes.as_slice() {
                 out.push_str(if *byte == b'\n' { "\\n" } else { "?" })?;
@@ -123,7 +159,7 @@ fn format_part(out: &mut String, part: &FormatPart) -> Result<(), AllocError> {
 fn printf(alloc: Global, out: &mut String, print: &TypedPrintf) -> Result<(), AllocError> {
     out.push_str(format!(in alloc; "{}: print \"", print.line)?.as_str())?;
     for part in print.format.as_slice() {
-        format_part(out, part)?;
+        format_part(alloc, out, part)?;
     }
     out.push_str("\"")?;
     for argument in print.arguments.as_slice() {
@@ -133,25 +169,58 @@ fn printf(alloc: Global, out: &mut String, print: &TypedPrintf) -> Result<(), Al
     Ok(())
 }
 
+fn declared(alloc: Global, out: &mut String, x: &DeclaredVariable) -> Result<(), AllocError> {
+    match x.of {
+        VariableType::Value(of) => variable(alloc, out, x.place, of)?,
+        VariableType::Array(_, _) => out.push_str("?")?,
+    }
+    out.push_str(if x.value.is_some() { " = ?" } else { "" })
+}
+
 fn decl(alloc: Global, out: &mut String, decl: &TypedDecl) -> Result<(), AllocError> {
     out.push_str(format!(in alloc; "{}:", decl.line)?.as_str())?;
     for named in decl.vars.as_slice() {
         out.push_str(" ")?;
-        variable(alloc, out, *named)?;
+        declared(alloc, out, named)?;
     }
     out.push_str("; ")
+}
+
+fn step(alloc: Global, out: &mut String, step: &TypedStep) -> Result<(), AllocError> {
+    out.push_str(format!(in alloc; "{}: ", step.line)?.as_str())?;
+    match &step.target {
+        TypedPlace::Variable(named) => variable(alloc, out, named.place, named.of)?,
+        _ => out.push_str("?")?,
+    }
+    match &step.change {
+        TypedChange::Assign(value) => {
+            out.push_str(" = ")?;
+            expr(alloc, out, value)
+        }
+        _ => out.push_str(" ?"),
+    }
+}
+
+fn drive(alloc: Global, out: &mut String, drive: &TypedDrive) -> Result<(), AllocError> {
+    out.push_str(format!(in alloc; "{}: ", drive.line)?.as_str())?;
+    if let Some(delay) = &drive.delay {
+        out.push_str("@")?;
+        expr(alloc, out, delay)?;
+        out.push_str(" ")?;
+    }
+    signal(alloc, out, drive.target)?;
+    out.push_str(match drive.operator {
+        DriveOperator::Assign => " = ",
+        DriveOperator::Arrow => " <= ",
+    })?;
+    expr(alloc, out, &drive.value)
 }
 
 #[cycle(show)]
 fn stmt(alloc: Global, out: &mut String, x: &TypedStmt) -> Result<(), AllocError> {
     match x {
         TypedStmt::Block(inner) => block(alloc, out, inner)?,
-        TypedStmt::Step(step) => {
-            out.push_str(format!(in alloc; "{}: ", step.line)?.as_str())?;
-            variable(alloc, out, step.target)?;
-            out.push_str(" = ")?;
-            expr(alloc, out, &step.value)?;
-        }
+        TypedStmt::Step(found) => step(alloc, out, found)?,
         TypedStmt::While(looped) => {
             out.push_str(format!(in alloc; "{}: while ", looped.line)?.as_str())?;
             expr(alloc, out, &looped.condition)?;
@@ -159,13 +228,16 @@ fn stmt(alloc: Global, out: &mut String, x: &TypedStmt) -> Result<(), AllocError
             return stmt(alloc, out, looped.body.get());
         }
         TypedStmt::Printf(print) => printf(alloc, out, print)?,
-        TypedStmt::Drive(drive) => {
-            out.push_str(format!(in alloc; "{}: ", drive.line)?.as_str())?;
-            signal(alloc, out, drive.target)?;
-            out.push_str(" = ")?;
-            expr(alloc, out, &drive.value)?;
+        TypedStmt::Drive(found) => drive(alloc, out, found)?,
+        TypedStmt::Edge(edge) => {
+            let sign = if edge.negative {
+                "negative edge"
+            } else {
+                "edge"
+            };
+            out.push_str(format!(in alloc; "{}: {sign}", edge.line)?.as_str())?
         }
-        TypedStmt::Edge(edge) => out.push_str(format!(in alloc; "{}: edge", edge.line)?.as_str())?,
+        _ => out.push_str("?")?,
     }
     out.push_str("; ")
 }
@@ -194,6 +266,7 @@ pub fn tree(alloc: Global, tree: &TypedTree) -> Result<String, AllocError> {
                 out.push_str(" ")?;
                 block(alloc, &mut out, &program.block)?;
             }
+            _ => out.push_str("? ")?,
         }
     }
     Ok(out)

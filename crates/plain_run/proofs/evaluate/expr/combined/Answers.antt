@@ -4,4 +4,4 @@ use Rattle.plain_run.proofs.evaluate.expr.combined.Goals as goal
 
 pub apply-requires : goal.apply-requires
 apply-requires c =
-    ap length c.extend-a.ensures ∙ length-extended _ _ _ ∙ sym (ap length c.extend-b.ensures ∙ length-extended _ _ _)
+    ap length c.fitted-a.ensures ∙ length-extended _ _ _ ∙ sym (ap length c.fitted-b.ensures ∙ length-extended _ _ _)

@@ -1,7 +1,7 @@
 use Rattle.std.proofs.Common.{List, ℕ, subst}
 use Rattle.std.specs.Bool.{Decides}
 use Rattle.run_rules.specs.Links.{HasClockName}
-use Rattle.signal_link.proofs.Allowed.{clock_allowed, clock_output_allowed, hold_allowed, sample_allowed}
+use Rattle.signal_link.proofs.Allowed.{clock_allowed, clock_output_allowed, other_allowed}
 use Rattle.signal_link.proofs.roles.Roles.allow.Goals as goal
 
 pub returns-in-Input : goal.returns-in-Input
@@ -10,8 +10,5 @@ returns-in-Input c = λ p h is. clock_allowed p c.args.signal.now _ c.in-Clock.i
 pub returns-in-Output : goal.returns-in-Output
 returns-in-Output c = λ p h is. clock_output_allowed p c.args.signal.now c.args.nets.now _ c.in-Clock.is c.in-Output.is is (c.allow_nets.ensures p h)
 
-pub returns-in-PositiveHold : goal.returns-in-PositiveHold
-returns-in-PositiveHold c = λ p h is. hold_allowed p c.args.signal.now c.args.nets.now _ c.in-PositiveHold.is is (c.allow_nets-in-PositiveHold.ensures p h)
-
-pub returns-in-PositiveSample : goal.returns-in-PositiveSample
-returns-in-PositiveSample c = λ p h is. sample_allowed p c.args.signal.now c.args.nets.now _ c.in-PositiveSample.is is (c.allow_nets-in-PositiveSample.ensures p h)
+pub returns-in_default : goal.returns-in_default
+returns-in_default c = λ p h is. other_allowed p c.args.signal.now c.args.nets.now _ c.in_default.not-Clock is (c.allow_nets-in_default.ensures p h)

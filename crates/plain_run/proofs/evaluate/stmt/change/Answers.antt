@@ -1,0 +1,6 @@
+use Rattle.std.proofs.Common.{refl}
+use Rattle.plain_run.proofs.Steps.{changes_at, other_place, other_change}
+use Rattle.plain_run.proofs.evaluate.stmt.change.Goals as goal
+
+pub returns-in_ok-assign-in-Assign : goal.returns-in_ok-assign-in-Assign
+returns-in_ok-assign-in-Assign c = changes_at _ _ _ _ _ _ c.in-Variable.is c.in-Assign.is c.in_ok-assign-in-Assign.ensures
