@@ -1,0 +1,218 @@
+//! Coverage groups.
+
+ghost use Rattle.grammar_laws.specs.Readers.{Reads};
+ghost use Rattle.vera_parse.specs.CoverageReading as reading;
+ghost use Rattle.vera_parse.specs.ExpressionReading.{expr};
+ghost use Rattle.vera_parse.specs.ListReading as lists;
+ghost use Rattle.vera_parse.specs.PartReading.{edge};
+ghost use Rattle.vera_ast.specs.declared.codes.TheConstants as code;
+
+use crate::cursor::Cursor;
+use crate::exprs::expr;
+use crate::parts::edge;
+use crate::repeats::{listed, some, title};
+use crate::trees::list_from;
+use crate::turns::maybe;
+use four_state::{List, Text};
+use grammar_laws::Fault;
+use std::alloc::Global;
+use vera_ast::codes::{
+    ANY_MODE, ARROW, AT, BAD_STATE, BAD_TRANS, COLON, COMMA, COVERAGE_GROUP, DOT, EQUALS,
+    LEFT_BRACE, LEFT_PARENTHESIS, RIGHT_BRACE, RIGHT_PARENTHESIS, SAMPLE, SAMPLE_EVENT, SEMICOLON,
+    STATE, SYNC, TRANS,
+};
+use vera_ast::{Bin, BinKind, BinValue, CoverageGroup, Expr, GroupEvent, Sample, SyncEvent};
+
+/// The words with which a bin begins.
+const BIN_WORDS: [u8; 4] = [STATE, BAD_STATE, TRANS, BAD_TRANS];
+
+/// `"sync" "(" "ANY" "," name ")"`.
+#[tactic(auto, unfolding(crate::specs::CoverageReading::sync_event, grammar_laws::specs::Readers::and_then))]
+fn sync_event(alloc: Global, tokens: &mut Cursor<'_>) -> Result<GroupEvent, Fault>
+    ensures { Reads (reading.sync_event tokens.old.rest.now) result tokens.new.rest.now }
+{
+    let line = tokens.word(SYNC)?;
+    tokens.word(LEFT_PARENTHESIS)?;
+    tokens.word(ANY_MODE)?;
+    tokens.word(COMMA)?;
+    let name = title(alloc, tokens)?;
+    tokens.word(RIGHT_PARENTHESIS)?;
+    Ok(GroupEvent::Sync(SyncEvent { line, name }))
+}
+
+/// `":" expr`.
+#[tactic(auto, unfolding(crate::specs::ListReading::after, grammar_laws::specs::Readers::and_then))]
+fn last_value(alloc: Global, tokens: &mut Cursor<'_>, depth: usize) -> Result<Expr, Fault>
+    ensures { Reads (lists.after code.COLON (expr depth) tokens.old.rest.now) result tokens.new.rest.now }
+{
+    tokens.word(COLON)?;
+    expr(alloc, tokens, depth)
+}
+
+/// `val = expr [ ":" expr ]`.
+#[tactic(auto, unfolding(crate::specs::CoverageReading::val, grammar_laws::specs::Readers::and_then))]
+fn val(alloc: Global, tokens: &mut Cursor<'_>, depth: usize) -> Result<BinValue, Fault>
+    ensures { Reads (reading.val (expr depth) tokens.old.rest.now) result tokens.new.rest.now }
+{
+    let first = expr(alloc, tokens, depth)?;
+    let last = maybe(
+        tokens,
+        &[COLON],
+        |tokens: &mut Cursor<'_>| last_value(alloc, tokens, depth),
+    )?;
+    Ok(BinValue {
+        line: first.line(),
+        first,
+        last,
+    })
+}
+
+/// `( "state" | "bad_state" ) name "(" val { "," val } ")" ";"`.
+#[tactic(auto, unfolding(crate::specs::CoverageReading::state_bin, crate::specs::CoverageReading::state_word, grammar_laws::specs::Readers::and_then))]
+fn state_bin(alloc: Global, tokens: &mut Cursor<'_>, depth: usize) -> Result<Bin, Fault>
+    ensures { Reads (reading.state_bin (expr depth) tokens.old.rest.now) result tokens.new.rest.now }
+{
+    let (line, kind) = tokens.sign(&[(STATE, BinKind::State), (BAD_STATE, BinKind::BadState)])?;
+    let name = title(alloc, tokens)?;
+    tokens.word(LEFT_PARENTHESIS)?;
+    let values = listed(
+        alloc,
+        tokens,
+        COMMA,
+        |tokens: &mut Cursor<'_>| val(alloc, tokens, depth),
+    )?;
+    tokens.word(RIGHT_PARENTHESIS)?;
+    tokens.word(SEMICOLON)?;
+    Ok(Bin {
+        line,
+        kind,
+        name,
+        values,
+    })
+}
+
+/// `val "->" val { "->" val }`.
+#[tactic(auto, unfolding(crate::specs::CoverageReading::steps, grammar_laws::specs::Readers::and_then))]
+fn steps(alloc: Global, tokens: &mut Cursor<'_>, depth: usize) -> Result<List<BinValue>, Fault>
+    ensures { Reads (reading.steps (expr depth) tokens.old.rest.now) result tokens.new.rest.now }
+{
+    let first = val(alloc, tokens, depth)?;
+    tokens.word(ARROW)?;
+    let more = listed(
+        alloc,
+        tokens,
+        ARROW,
+        |tokens: &mut Cursor<'_>| val(alloc, tokens, depth),
+    )?;
+    Ok(list_from(alloc, first, more)?)
+}
+
+/// `( "trans" | "bad_trans" ) name "(" val "->" val { "->" val } ")" ";"`.
+#[tactic(auto, unfolding(crate::specs::CoverageReading::trans_bin, crate::specs::CoverageReading::trans_word, grammar_laws::specs::Readers::and_then))]
+fn trans_bin(alloc: Global, tokens: &mut Cursor<'_>, depth: usize) -> Result<Bin, Fault>
+    ensures { Reads (reading.trans_bin (expr depth) tokens.old.rest.now) result tokens.new.rest.now }
+{
+    let (line, kind) = tokens.sign(&[
+        (TRANS, BinKind::Transition),
+        (BAD_TRANS, BinKind::BadTransition),
+    ])?;
+    let name = title(alloc, tokens)?;
+    tokens.word(LEFT_PARENTHESIS)?;
+    let values = steps(alloc, tokens, depth)?;
+    tokens.word(RIGHT_PARENTHESIS)?;
+    tokens.word(SEMICOLON)?;
+    Ok(Bin {
+        line,
+        kind,
+        name,
+        values,
+    })
+}
+
+/// A bin: of states, or of transitions.
+#[tactic(auto, unfolding(crate::specs::CoverageReading::bin, grammar_laws::specs::Readers::either))]
+fn bin(alloc: Global, tokens: &mut Cursor<'_>, depth: usize) -> Result<Bin, Fault>
+    ensures { Reads (reading.bin (expr depth) tokens.old.rest.now) result tokens.new.rest.now }
+{
+    if tokens.begins(&[STATE, BAD_STATE]) {
+        state_bin(alloc, tokens, depth)
+    } else {
+        trans_bin(alloc, tokens, depth)
+    }
+}
+
+/// `"." name`.
+#[tactic(auto, unfolding(crate::specs::ListReading::after, grammar_laws::specs::Readers::and_then))]
+fn signal_name(alloc: Global, tokens: &mut Cursor<'_>) -> Result<Text, Fault>
+    ensures { Reads (lists.after code.DOT lists.title tokens.old.rest.now) result tokens.new.rest.now }
+{
+    tokens.word(DOT)?;
+    title(alloc, tokens)
+}
+
+/// `samp = "sample" name [ "." name ] "{" bin { bin } "}"`.
+#[tactic(auto, unfolding(crate::specs::CoverageReading::samp, grammar_laws::specs::Readers::and_then))]
+fn samp(alloc: Global, tokens: &mut Cursor<'_>, depth: usize) -> Result<Sample, Fault>
+    ensures { Reads (reading.samp (expr depth) tokens.old.rest.now) result tokens.new.rest.now }
+{
+    let line = tokens.word(SAMPLE)?;
+    let name = title(alloc, tokens)?;
+    let signal = maybe(
+        tokens,
+        &[DOT],
+        |tokens: &mut Cursor<'_>| signal_name(alloc, tokens),
+    )?;
+    tokens.word(LEFT_BRACE)?;
+    let bins = some(
+        alloc,
+        tokens,
+        &BIN_WORDS,
+        |tokens: &mut Cursor<'_>| bin(alloc, tokens, depth),
+    )?;
+    tokens.word(RIGHT_BRACE)?;
+    Ok(Sample {
+        line,
+        name,
+        signal,
+        bins,
+    })
+}
+
+/// `event = edge | "sync" "(" "ANY" "," name ")"`.
+#[tactic(auto, unfolding(crate::specs::CoverageReading::event, grammar_laws::specs::Readers::and_then, grammar_laws::specs::Readers::either))]
+fn event(alloc: Global, tokens: &mut Cursor<'_>, depth: usize) -> Result<GroupEvent, Fault>
+    ensures { Reads (reading.event (expr depth) edge tokens.old.rest.now) result tokens.new.rest.now }
+{
+    if tokens.begins(&[AT]) {
+        let edge = edge(alloc, tokens)?;
+        return Ok(GroupEvent::Edge(edge));
+    }
+    sync_event(alloc, tokens)
+}
+
+/// `group = "coverage_group" name "{" "sample_event" "=" event ";" samp { samp } "}"`.
+#[tactic(auto, unfolding(crate::specs::CoverageReading::group, grammar_laws::specs::Readers::and_then))]
+pub fn group(alloc: Global, tokens: &mut Cursor<'_>, depth: usize) -> Result<CoverageGroup, Fault>
+    ensures { Reads (reading.group (expr depth) edge tokens.old.rest.now) result tokens.new.rest.now }
+{
+    let line = tokens.word(COVERAGE_GROUP)?;
+    let name = title(alloc, tokens)?;
+    tokens.word(LEFT_BRACE)?;
+    tokens.word(SAMPLE_EVENT)?;
+    tokens.word(EQUALS)?;
+    let event = event(alloc, tokens, depth)?;
+    tokens.word(SEMICOLON)?;
+    let samples = some(
+        alloc,
+        tokens,
+        &[SAMPLE],
+        |tokens: &mut Cursor<'_>| samp(alloc, tokens, depth),
+    )?;
+    tokens.word(RIGHT_BRACE)?;
+    Ok(CoverageGroup {
+        line,
+        name,
+        event,
+        samples,
+    })
+}
