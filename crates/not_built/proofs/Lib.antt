@@ -1,0 +1,3 @@
+pub mod Firsts
+pub mod ExprFirsts
+pub mod StmtFirsts

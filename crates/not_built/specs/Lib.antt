@@ -1,0 +1,5 @@
+pub mod Lines
+pub mod Expressions
+pub mod Statements
+pub mod NotBuilt
+pub mod Passing
