@@ -1,0 +1,23 @@
+pub mod Answering
+mod BlockViews
+mod BlockWalks
+mod DataTypeSteps
+mod Descents
+mod Families
+mod FileSteps
+mod Going
+mod InterfaceSteps
+mod ItemParts
+mod ItemWalks
+mod Items
+mod NameLines
+mod NameSets
+mod NameViews
+mod NumberViews
+mod PartSteps
+mod ScopeMaps
+mod Sights
+mod SignalMaps
+mod VariableSteps
+mod WalkParts
+mod Widths

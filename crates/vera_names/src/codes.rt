@@ -1,0 +1,55 @@
+//! The numbers of the rules.
+
+ghost use Rattle.std.specs.Prelude.{◌≡◌};
+ghost use Rattle.vera_ast.specs.declared.refusal.FrontError.TheVariants.{Refused};
+ghost use Rattle.typing_rules.specs.Answers.{answered};
+ghost use Rattle.typing_rules.specs.Checked as spec;
+
+use vera_ast::{FrontError, Refusal};
+
+/// A name is unknown where it stands.
+pub const UNKNOWN_NAME: u8 = 30;
+
+/// A name is declared twice in one scope.
+pub const DECLARED_TWICE: u8 = 31;
+
+/// A type doesn't fit.
+pub const WRONG_TYPE: u8 = 32;
+
+/// The number of arguments is wrong.
+pub const WRONG_COUNT: u8 = 33;
+
+/// What is to be assigned can't be.
+pub const NOT_ASSIGNABLE: u8 = 34;
+
+/// It stands in a function, or a call that may wait stands elsewhere than allowed.
+pub const NOT_HERE: u8 = 35;
+
+/// There is no program, or a second one.
+pub const NOT_ONE_PROGRAM: u8 = 36;
+
+/// A signal is used against its direction or kind.
+pub const WRONG_SIGNAL: u8 = 37;
+
+/// A limit is passed.
+pub const PAST_LIMIT: u8 = 39;
+
+/// The refusal of the part that begins on a line.
+pub fn refused(code: u8, line: u32) -> FrontError
+    ensures { result ≡ Refused (record { code = code; line = line }) }
+{
+    FrontError::Refused(Refusal { code, line })
+}
+
+/// The rules of the part that begins on a line, each with whether it is broken there: the first broken one counts.
+#[tactic(auto, unfolding(typing_rules::specs::Checked::keeps, typing_rules::specs::Checked::refuse))]
+pub fn keeps(line: u32, rules: &[(u8, bool)]) -> Result<(), FrontError>
+    ensures { result ≡ answered (spec.keeps line rules.now) }
+{
+    for rule in rules {
+        if rule.1 {
+            return Err(refused(rule.0, line));
+        }
+    }
+    Ok(())
+}
