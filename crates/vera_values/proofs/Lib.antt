@@ -1,0 +1,4 @@
+mod CutSteps
+mod PostSteps
+mod ProductionSteps
+mod ValueSteps
