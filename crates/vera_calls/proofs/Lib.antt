@@ -1,0 +1,5 @@
+mod CallSteps
+mod FormatParts
+mod GivenSteps
+mod Splits
+pub mod Wants

@@ -1,0 +1,4 @@
+pub mod CallForms
+pub mod FormatSteps
+pub mod Splitting
+pub mod Wanting
