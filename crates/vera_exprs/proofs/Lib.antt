@@ -1,0 +1,3 @@
+mod StepsOpened
+mod WalkSteps
+mod WalkViews
