@@ -1,0 +1,4 @@
+pub mod SideSteps
+pub mod StepsOpened
+pub mod StmtSteps
+pub mod TargetSteps

@@ -1,0 +1,3 @@
+pub mod SideLists
+pub mod SimpleForms
+pub mod TargetLists

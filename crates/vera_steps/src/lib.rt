@@ -1,0 +1,9 @@
+//! Statements that hold no statements: assignments, drives, waits.
+#![tactic(auto)]
+
+pub mod assignments;
+pub mod drives;
+pub mod rules;
+pub mod sides;
+pub mod targets;
+pub mod waits;
