@@ -1,0 +1,4 @@
+mod BlockSteps
+mod BodySteps
+mod StmtWalks
+mod OutlineSteps

@@ -1,0 +1,2 @@
+pub mod StmtForms
+pub mod OutlineForms
