@@ -2,11 +2,14 @@
 
 use crate::show::Out;
 use crate::show::items::tree;
+use crate::source::expanded;
 use four_state::NoMemory;
+use not_built::{not_built, not_checked};
 use std::alloc::{AllocError, Global};
 use vera_ast::{FrontError, Refusal, Token};
 use vera_lex::lex;
 use vera_parse::parse;
+use vera_types::check;
 
 /// The answer to a line of input.
 pub fn answer(alloc: Global, line: &[u8]) -> Result<Vec<u8>, AllocError> {
@@ -26,48 +29,14 @@ fn written(alloc: Global, line: &[u8]) -> Result<Vec<u8>, NoMemory> {
     let source = expanded(alloc, &line[2..], feed)?;
     match lexed(alloc, source.as_slice()) {
         Err(error) => refusal(&mut out, error)?,
-        Ok(tokens) => {
-            if line[0] == b'<' {
-                fronts(&mut out, tokens.as_slice())?;
-            } else {
-                parsed(&mut out, tokens.as_slice())?;
-            }
-        }
+        Ok(tokens) => match line[0] {
+            b'<' => fronts(&mut out, tokens.as_slice())?,
+            b'?' => checked(&mut out, tokens.as_slice())?,
+            b'!' => built(&mut out, tokens.as_slice())?,
+            _ => parsed(&mut out, tokens.as_slice())?,
+        },
     }
     Ok(out.text)
-}
-
-/// The source of a line, with a line feed for each `feed`. Between two backquotes stands a number, a feed, and what is
-/// repeated so many times.
-fn expanded(alloc: Global, line: &[u8], feed: u8) -> Result<Vec<u8>, NoMemory> {
-    let mut source = Vec::new(alloc);
-    let mut repeated = Vec::new(alloc);
-    let mut count: u16 = 0;
-    let mut is_inside = false;
-    let mut is_counted = false;
-    for byte in line {
-        let byte = if *byte == feed { b'\n' } else { *byte };
-        if byte == b'`' {
-            for _ in 0..count {
-                source.extend_from_slice(repeated.as_slice())?;
-            }
-            repeated.clear();
-            count = 0;
-            is_inside = !is_inside;
-            is_counted = false;
-        } else if !is_inside {
-            source.push(byte)?;
-        } else if is_counted {
-            repeated.push(byte)?;
-        } else if byte.is_ascii_digit() {
-            count = count
-                .saturating_mul(10)
-                .saturating_add(u16::from(byte - b'0'));
-        } else {
-            is_counted = true;
-        }
-    }
-    Ok(source)
 }
 
 /// The tokens of a source that isn't over the lexer's bound.
@@ -96,6 +65,41 @@ fn parsed(out: &mut Out, tokens: &[Token]) -> Result<(), NoMemory> {
             out.put(b"\n")
         }
         Err(error) => refusal(out, error),
+    }
+}
+
+/// Whether the checker accepts the tree of these tokens, or the first refusal.
+fn checked(out: &mut Out, tokens: &[Token]) -> Result<(), NoMemory> {
+    let file = match parse(out.alloc, tokens) {
+        Ok(file) => file,
+        Err(error) => return refusal(out, error),
+    };
+    match check(out.alloc, &file) {
+        Ok(_) => out.put(b"accepted\n"),
+        Err(error) => refusal(out, error),
+    }
+}
+
+/// What isn't built yet of the tree of these tokens: for a run, and for the checker alone.
+fn built(out: &mut Out, tokens: &[Token]) -> Result<(), NoMemory> {
+    let file = match parse(out.alloc, tokens) {
+        Ok(file) => file,
+        Err(error) => return refusal(out, error),
+    };
+    construct(out, not_built(&file))?;
+    out.put(b", ")?;
+    construct(out, not_checked(&file))?;
+    out.put(b"\n")
+}
+
+/// `E90 7` where a construct that begins on line 7 isn't built.
+fn construct(out: &mut Out, line: Option<u32>) -> Result<(), NoMemory> {
+    match line {
+        None => out.put(b"built"),
+        Some(line) => {
+            out.put(b"E90 ")?;
+            out.number(u64::from(line))
+        }
     }
 }
 
