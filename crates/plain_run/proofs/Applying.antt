@@ -6,8 +6,6 @@ use Rattle.std.proofs.lemmas.List.{get_or-set_same}
 use Rattle.std.proofs.lemmas.Option.{slice_get_within, slice_get-get_or, get_or_from_slice_get}
 use Rattle.four_state.specs.declared.bit.Bit.{Bit}
 use Rattle.four_state.specs.declared.bit.Bit3.{Bit3}
-use Rattle.vera_ast.specs.declared.tree.interfaces.Direction.TheVariants.{Output}
-use Rattle.vera_ast.specs.declared.typed.interface.TypedSignal.{TypedSignal}
 use Rattle.vera_ast.specs.Signals.{NamedSignal}
 use Rattle.blif_read.specs.Netlists.{Parts}
 use Rattle.blif_device.specs.Valuations.{valuation}
@@ -15,7 +13,7 @@ use Rattle.vera_meaning.specs.Driving.{FitsSignal}
 use Rattle.run_rules.specs.declared.drive.Drive.{Drive}
 use Rattle.run_rules.specs.Designs.{Design}
 use Rattle.run_rules.specs.Drives.{Driven, meet, given_to, driven_by, with_value}
-use Rattle.run_rules.specs.Links.{LinksAs, IsDrivable}
+use Rattle.run_rules.specs.Links.{LinksAs}
 use Rattle.run_rules.specs.Nets.{nets_of, driven_nets, put_bits}
 use Rattle.run_rules.proofs.DrivenNets.{driving_all}
 use Rattle.run_rules.proofs.Fitting.{meet_fits, value_fits}

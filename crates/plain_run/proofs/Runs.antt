@@ -7,6 +7,7 @@ use Rattle.vera_meaning.specs.Slices.{rest_of}
 use Rattle.blif_device.specs.Edges.{first_held}
 use Rattle.run_rules.specs.declared.drive.Drive.{Drive}
 use Rattle.run_rules.specs.declared.end.End.{End}
+use Rattle.run_rules.specs.declared.limits.Limits.{Limits}
 use Rattle.run_rules.specs.Designs.{Design}
 use Rattle.run_rules.specs.Moves.{move}
 use Rattle.run_rules.specs.Runs.{run, IsFinal}
@@ -16,65 +17,65 @@ use Rattle.plain_run.specs.declared.cycles.Run.{Run}
 use Rattle.plain_run.specs.Begun.{IsBegun}
 use Rattle.plain_run.specs.Cycles.{moved_on, GoesOnTo, EndsFrom}
 use Rattle.plain_run.specs.Outsides.{undriven}
-use Rattle.plain_run.specs.ReadyStates.{Kept, ready_state, limits_of}
+use Rattle.plain_run.specs.ReadyStates.{Kept, ready_state}
 use Rattle.plain_run.specs.Standing.{StandsAt, WentOn, HasEnded, state_of, kept_of}
 
 -- moves one after another
-more_moves : (design : Design) (cycles : ℕ) (s : State Rest) (a b : ℕ) → moved_on design cycles s (a + b) ≡ moved_on design cycles (moved_on design cycles s a) b
+more_moves : (design : Design) (limits : Limits) (s : State Rest) (a b : ℕ) → moved_on design limits s (a + b) ≡ moved_on design limits (moved_on design limits s a) b
 unfolding moved_on
-more_moves design cycles s a zero = let e : a + zero ≡ a = omega arith in ap (moved_on design cycles s) e
-more_moves design cycles s a (suc b) =
+more_moves design limits s a zero = let e : a + zero ≡ a = omega arith in ap (moved_on design limits s) e
+more_moves design limits s a (suc b) =
     let e : a + suc b ≡ suc (a + b) = omega arith in
-    ap (moved_on design cycles s) e ∙ ap (move source_meaning design (limits_of cycles)) (more_moves design cycles s a b)
+    ap (moved_on design limits s) e ∙ ap (move source_meaning design limits) (more_moves design limits s a b)
 
 split : (n a : ℕ) → (n < a) ⊎ (a ≤ n)
 split n a = grind arith
 
 -- no end came before, where none came up to a state, and none behind it
-none_before : (design : Design) (cycles : ℕ) (s t : State Rest) (a b : ℕ) → moved_on design cycles s a ≡ t → ((n : ℕ) → n < a → (moved_on design cycles s n).ended ≡ None) → ((n : ℕ) → n < b → (moved_on design cycles t n).ended ≡ None) → (n : ℕ) → n < a + b → (moved_on design cycles s n).ended ≡ None
-none_before design cycles s t a b is first then_ n h = by (split n a)
+none_before : (design : Design) (limits : Limits) (s t : State Rest) (a b : ℕ) → moved_on design limits s a ≡ t → ((n : ℕ) → n < a → (moved_on design limits s n).ended ≡ None) → ((n : ℕ) → n < b → (moved_on design limits t n).ended ≡ None) → (n : ℕ) → n < a + b → (moved_on design limits s n).ended ≡ None
+none_before design limits s t a b is first then_ n h = by (split n a)
   where
-    by : (n < a) ⊎ (a ≤ n) → (moved_on design cycles s n).ended ≡ None
+    by : (n < a) ⊎ (a ≤ n) → (moved_on design limits s n).ended ≡ None
     by (inl k) = first n k
     by (inr k) =
         let e : n ≡ a + (n - a) = omega arith in
-        ap (λ m. (moved_on design cycles s m).ended) e
-        ∙ (ap (λ (x : State Rest). x.ended) (more_moves design cycles s a (n - a) ∙ ap (λ x. moved_on design cycles x (n - a)) is)
+        ap (λ m. (moved_on design limits s m).ended) e
+        ∙ (ap (λ (x : State Rest). x.ended) (more_moves design limits s a (n - a) ∙ ap (λ x. moved_on design limits x (n - a)) is)
         ∙ then_ (n - a) (omega arith))
 
-joined : (design : Design) (cycles : ℕ) (s t u : State Rest) (a b : ℕ) → moved_on design cycles s a ≡ t → moved_on design cycles t b ≡ u → moved_on design cycles s (a + b) ≡ u
-joined design cycles s t u a b is then_ = more_moves design cycles s a b ∙ (ap (λ x. moved_on design cycles x b) is ∙ then_)
+joined : (design : Design) (limits : Limits) (s t u : State Rest) (a b : ℕ) → moved_on design limits s a ≡ t → moved_on design limits t b ≡ u → moved_on design limits s (a + b) ≡ u
+joined design limits s t u a b is then_ = more_moves design limits s a b ∙ (ap (λ x. moved_on design limits x b) is ∙ then_)
 
-pub goes_on : (design : Design) (cycles : ℕ) (s t u : State Rest) → GoesOnTo design cycles s t → GoesOnTo design cycles t u → GoesOnTo design cycles s u
-goes_on design cycles s t u g h = record {
+pub goes_on : (design : Design) (limits : Limits) (s t u : State Rest) → GoesOnTo design limits s t → GoesOnTo design limits t u → GoesOnTo design limits s u
+goes_on design limits s t u g h = record {
   moves = g.moves + h.moves;
-  is = joined design cycles s t u g.moves h.moves g.is h.is;
-  before = none_before design cycles s t g.moves h.moves g.is g.before h.before;
+  is = joined design limits s t u g.moves h.moves g.is h.is;
+  before = none_before design limits s t g.moves h.moves g.is g.before h.before;
 }
 
-pub ends : (design : Design) (cycles : ℕ) (s t u : State Rest) (e : End) → GoesOnTo design cycles s t → EndsFrom design cycles t e u → EndsFrom design cycles s e u
-ends design cycles s t u e g h = record {
+pub ends : (design : Design) (limits : Limits) (s t u : State Rest) (e : End) → GoesOnTo design limits s t → EndsFrom design limits t e u → EndsFrom design limits s e u
+ends design limits s t u e g h = record {
   moves = g.moves + h.moves;
-  is = joined design cycles s t u g.moves h.moves g.is h.is;
+  is = joined design limits s t u g.moves h.moves g.is h.is;
   over = h.over;
-  before = none_before design cycles s t g.moves h.moves g.is g.before h.before;
+  before = none_before design limits s t g.moves h.moves g.is g.before h.before;
 }
 
 -- one more cycle
-pub went_further : (design : Design) (cycles : ℕ) (s : State Rest) (middle later : Run) (w : WentOn design cycles s middle) → WentOn design cycles (state_of middle w.serial w.driven w.held) later → WentOn design cycles s later
-went_further design cycles s middle later w v = record {
+pub went_further : (design : Design) (limits : Limits) (s : State Rest) (middle later : Run) (w : WentOn design limits s middle) → WentOn design limits (state_of middle w.serial w.driven w.held) later → WentOn design limits s later
+went_further design limits s middle later w v = record {
   serial = v.serial;
   driven = v.driven;
   held = v.held;
   stands = v.stands;
-  moves = goes_on design cycles s (state_of middle w.serial w.driven w.held) (state_of later v.serial v.driven v.held) w.moves v.moves;
+  moves = goes_on design limits s (state_of middle w.serial w.driven w.held) (state_of later v.serial v.driven v.held) w.moves v.moves;
 }
 
 -- and the last one
-pub has_ended : (design : Design) (cycles : ℕ) (s : State Rest) (middle : Run) (end : End) (cycle : ℕ) (printed : List ℕ) (applied : List Drive) (w : WentOn design cycles s middle) → HasEnded design cycles (state_of middle w.serial w.driven w.held) end cycle printed applied → HasEnded design cycles s end cycle printed applied
-has_ended design cycles s middle end cycle printed applied w h = record {
+pub has_ended : (design : Design) (limits : Limits) (s : State Rest) (middle : Run) (end : End) (cycle : ℕ) (printed : List ℕ) (applied : List Drive) (w : WentOn design limits s middle) → HasEnded design limits (state_of middle w.serial w.driven w.held) end cycle printed applied → HasEnded design limits s end cycle printed applied
+has_ended design limits s middle end cycle printed applied w h = record {
   state = h.state;
-  moves = ends design cycles s (state_of middle w.serial w.driven w.held) h.state end w.moves h.moves;
+  moves = ends design limits s (state_of middle w.serial w.driven w.held) h.state end w.moves h.moves;
   cycle_is = h.cycle_is;
   printed_is = h.printed_is;
   applied_is = h.applied_is;
@@ -96,9 +97,9 @@ begun_state design program r b =
     kept : Contents → ℕ → List ℕ → List Drive → Kept
     kept c y p a = record { serial = 1; cycle = y; contents = c; driven = undriven; held = first_held design.netlist; printed = p; applied = a }
 
-pub begins : (design : Design) (cycles : ℕ) (program : TypedProgram) (r : Run) → IsBegun r program → StandsAt r design undriven (first_held design.netlist) → WentOn design cycles (first_state design (rest_of program.block)) r
+pub begins : (design : Design) (limits : Limits) (program : TypedProgram) (r : Run) → IsBegun r program → StandsAt r design undriven (first_held design.netlist) → WentOn design limits (first_state design (rest_of program.block)) r
 unfolding moved_on
-begins design cycles program r b stands = record {
+begins design limits program r b stands = record {
   serial = 1;
   driven = undriven;
   held = first_held design.netlist;
@@ -107,15 +108,15 @@ begins design cycles program r b stands = record {
 }
 
 -- the run's moves
-run_is : (design : Design) (cycles : ℕ) (rest : Rest) (n : ℕ) → run source_meaning design (limits_of cycles) rest n ≡ moved_on design cycles (first_state design rest) n
+run_is : (design : Design) (limits : Limits) (rest : Rest) (n : ℕ) → run source_meaning design limits rest n ≡ moved_on design limits (first_state design rest) n
 unfolding run moved_on first_state
-run_is design cycles rest zero = refl
-run_is design cycles rest (suc n) = ap (move source_meaning design (limits_of cycles)) (run_is design cycles rest n)
+run_is design limits rest zero = refl
+run_is design limits rest (suc n) = ap (move source_meaning design limits) (run_is design limits rest n)
 
-pub is_final : (design : Design) (cycles : ℕ) (rest : Rest) (end : End) (t : State Rest) → EndsFrom design cycles (first_state design rest) end t → IsFinal source_meaning design (limits_of cycles) rest end t
-is_final design cycles rest end t h = record {
+pub is_final : (design : Design) (limits : Limits) (rest : Rest) (end : End) (t : State Rest) → EndsFrom design limits (first_state design rest) end t → IsFinal source_meaning design limits rest end t
+is_final design limits rest end t h = record {
   moves = h.moves;
-  is = run_is design cycles rest h.moves ∙ h.is;
+  is = run_is design limits rest h.moves ∙ h.is;
   over = h.over;
-  first = λ n k. ap (λ (x : State Rest). x.ended) (run_is design cycles rest n) ∙ h.before n k;
+  first = λ n k. ap (λ (x : State Rest). x.ended) (run_is design limits rest n) ∙ h.before n k;
 }

@@ -1,5 +1,5 @@
 -- The evaluator's work list, where its last entry is taken off and a block is opened.
-use Rattle.std.proofs.Common.{◌≡◌, ℕ, suc, ◌<◌, List, [], ◌∷◌, ◌++◌, map, true, refl, sym, ap, ◌∙◌, subst, arith}
+use Rattle.std.proofs.Common.{◌≡◌, ℕ, ◌<◌, List, [], ◌∷◌, ◌++◌, map, true, refl, sym, ap, ◌∙◌, subst, arith}
 use Rattle.std.proofs.lemmas.Grind.{common_steps}
 use Rattle.vera_ast.specs.declared.typed.stmt.TypedBlock.{TypedBlock}
 use Rattle.vera_ast.specs.declared.typed.stmt.TypedStmt.TheViews.{Block}

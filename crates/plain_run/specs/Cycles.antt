@@ -6,6 +6,7 @@ use Rattle.blif_device.specs.Edges.{held_after}
 use Rattle.blif_device.specs.Valuations.{Valuation}
 use Rattle.run_rules.specs.declared.drive.Drive.{Drive}
 use Rattle.run_rules.specs.declared.end.End.{End}
+use Rattle.run_rules.specs.declared.limits.Limits.{Limits}
 use Rattle.run_rules.specs.Designs.{Design, settled_nets}
 use Rattle.run_rules.specs.Drives.{driven_by}
 use Rattle.run_rules.specs.Moves.{move}
@@ -13,25 +14,25 @@ use Rattle.run_rules.specs.Nets.{driven_nets, sampled}
 use Rattle.run_rules.specs.Sources.{source_meaning}
 use Rattle.run_rules.specs.States.{State}
 use Rattle.plain_run.specs.Logs.{Told}
-use Rattle.plain_run.specs.ReadyStates.{Kept, limits_of}
+use Rattle.plain_run.specs.ReadyStates.{Kept}
 
 -- so many moves further
-unfoldable pub moved_on : Design → (cycles : ℕ) → State Rest → ℕ → State Rest
-moved_on design cycles s zero = s
-moved_on design cycles s (suc n) = move source_meaning design (limits_of cycles) (moved_on design cycles s n)
+unfoldable pub moved_on : Design → Limits → State Rest → ℕ → State Rest
+moved_on design limits s zero = s
+moved_on design limits s (suc n) = move source_meaning design limits (moved_on design limits s n)
 
 -- the run goes on from the one state to the other, without an end
-pub record GoesOnTo (design : Design) (cycles : ℕ) (s t : State Rest) : Type 0 where
+pub record GoesOnTo (design : Design) (limits : Limits) (s t : State Rest) : Type 0 where
   pub moves : ℕ
-  pub is : moved_on design cycles s moves ≡ t
-  pub before : (n : ℕ) → n < moves → (moved_on design cycles s n).ended ≡ None
+  pub is : moved_on design limits s moves ≡ t
+  pub before : (n : ℕ) → n < moves → (moved_on design limits s n).ended ≡ None
 
 -- from this state the run ends so, in that one
-pub record EndsFrom (design : Design) (cycles : ℕ) (s : State Rest) (end : End) (t : State Rest) : Type 0 where
+pub record EndsFrom (design : Design) (limits : Limits) (s : State Rest) (end : End) (t : State Rest) : Type 0 where
   pub moves : ℕ
-  pub is : moved_on design cycles s moves ≡ t
+  pub is : moved_on design limits s moves ≡ t
   pub over : t.ended ≡ Some end
-  pub before : (n : ℕ) → n < moves → (moved_on design cycles s n).ended ≡ None
+  pub before : (n : ℕ) → n < moves → (moved_on design limits s n).ended ≡ None
 
 -- the values of the nets in the next cycle, behind these drives
 abbrev pub next_nets : Design → Kept → List Drive → Valuation

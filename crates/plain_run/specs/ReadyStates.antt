@@ -7,7 +7,7 @@ use Rattle.vera_meaning.specs.Rests.{Rest}
 use Rattle.run_rules.specs.declared.drive.Drive.{Drive}
 use Rattle.run_rules.specs.Drives.{Driven}
 use Rattle.run_rules.specs.Moves.{outcome_taken}
-use Rattle.run_rules.specs.States.{State, Limits}
+use Rattle.run_rules.specs.States.{State}
 use Rattle.plain_run.specs.Logs.{Told}
 
 -- what a run keeps beside its one thread
@@ -59,7 +59,3 @@ told_state k contents told = record {
 -- and now it is
 abbrev pub turned_state : Kept → Contents → Told → Outcome Rest → Rest → State Rest
 turned_state k contents told outcome rest = outcome_taken (told_state k contents told) 1 outcome rest
-
--- the limits of a run with this last cycle
-abbrev pub limits_of : ℕ → Limits
-limits_of cycles = record { cycles = cycles; budget = 1000000; turns = 1000000 }

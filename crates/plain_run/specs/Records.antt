@@ -7,13 +7,13 @@ use Rattle.vera_meaning.specs.Rests.{Rest}
 use Rattle.vera_meaning.specs.Slices.{rest_of}
 use Rattle.blif_device.specs.Devices.{State as DeviceState, IsNew}
 use Rattle.signal_link.specs.declared.linking.SignalNets.{SignalNets}
+use Rattle.run_rules.specs.declared.limits.Limits.{Limits}
 use Rattle.run_rules.specs.Designs.{Design, Settles}
 use Rattle.run_rules.specs.Runs.{IsFinal}
 use Rattle.run_rules.specs.Sources.{source_meaning}
 use Rattle.run_rules.specs.States.{State}
 use Rattle.plain_run.specs.declared.running.Record.{Record}
 use Rattle.plain_run.specs.Outsides.{IsLinked}
-use Rattle.plain_run.specs.ReadyStates.{limits_of}
 
 -- a program may run: all signals of the design link to its netlist, which always settles, the device is new, and each
 -- drive names an output
@@ -24,10 +24,10 @@ pub record CanRun (design : Design) (program : TypedProgram) (all : List SignalN
   pub device_new : IsNew design.netlist device
   pub drives : DrivesOutputs design.signals (Block program.block)
 
--- the run's final state, up to this last cycle, and what it told
-pub record RanTo (design : Design) (program : TypedProgram) (cycles : ℕ) (told : Record) : Type 0 where
+-- the run's final state, within these limits, and what it told
+pub record RanTo (design : Design) (program : TypedProgram) (limits : Limits) (told : Record) : Type 0 where
   pub state : State Rest
-  pub final : IsFinal source_meaning design (limits_of cycles) (rest_of program.block) told.end state
+  pub final : IsFinal source_meaning design limits (rest_of program.block) told.end state
   pub cycle : state.cycle ≡ told.cycle
   pub printed : state.printed ≡ told.printed.items
   pub applied : state.applied ≡ told.applied.items

@@ -5,6 +5,7 @@ use Rattle.vera_meaning.specs.Rests.{Rest}
 use Rattle.vera_meaning.specs.Driving.{ItemsDrive}
 use Rattle.run_rules.specs.declared.drive.Drive.{Drive}
 use Rattle.run_rules.specs.declared.end.End.{End}
+use Rattle.run_rules.specs.declared.limits.Limits.{Limits}
 use Rattle.run_rules.specs.Designs.{Design}
 use Rattle.run_rules.specs.Drives.{Driven}
 use Rattle.run_rules.specs.Fits.{FitsDriven}
@@ -55,22 +56,22 @@ pub record StandsSomewhere (run : Run) : Type 0 where
   pub stands : StandsAt run design driven held
 
 -- from this state the run goes on to where it stands now
-pub record WentOn (design : Design) (cycles : ℕ) (from : State Rest) (run : Run) : Type 0 where
+pub record WentOn (design : Design) (limits : Limits) (from : State Rest) (run : Run) : Type 0 where
   pub serial : ℕ
   pub driven : Driven
   pub held : List Bit3
   pub stands : StandsAt run design driven held
-  pub moves : GoesOnTo design cycles from (state_of run serial driven held)
+  pub moves : GoesOnTo design limits from (state_of run serial driven held)
 
 -- from this state the run ends so, and has told this by then
-pub record HasEnded (design : Design) (cycles : ℕ) (from : State Rest) (end : End) (cycle : ℕ) (printed : List ℕ) (applied : List Drive) : Type 0 where
+pub record HasEnded (design : Design) (limits : Limits) (from : State Rest) (end : End) (cycle : ℕ) (printed : List ℕ) (applied : List Drive) : Type 0 where
   pub state : State Rest
-  pub moves : EndsFrom design cycles from end state
+  pub moves : EndsFrom design limits from end state
   pub cycle_is : state.cycle ≡ cycle
   pub printed_is : state.printed ≡ printed
   pub applied_is : state.applied ≡ applied
 
 -- the run ended within the cycle, or goes on behind it
-abbrev pub CycleDone : Option End → Design → ℕ → State Rest → Run → Type 0
-CycleDone None design cycles from run = WentOn design cycles from run
-CycleDone (Some end) design cycles from run = HasEnded design cycles from end run.cycle run.log.printed.items run.applied.items
+abbrev pub CycleDone : Option End → Design → Limits → State Rest → Run → Type 0
+CycleDone None design limits from run = WentOn design limits from run
+CycleDone (Some end) design limits from run = HasEnded design limits from end run.cycle run.log.printed.items run.applied.items

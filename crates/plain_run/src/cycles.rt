@@ -14,11 +14,8 @@ use crate::evaluate::values::Values;
 use crate::evaluate::work::Work;
 use crate::outside::Outside;
 use four_state::NoMemory;
-use run_rules::{Drive, End};
+use run_rules::{Drive, End, Limits};
 use std::alloc::Global;
-
-/// The ticks that a slice may take.
-const BUDGET: u64 = 1_000_000;
 
 /// How many bytes a run may print, where each drive counts as 64.
 const MOST_TEXT: usize = 67_108_864;
@@ -37,21 +34,22 @@ pub struct Run<'a> {
 }
 
 impl<'a> Run<'a> {
-    /// One cycle: the thread's slice, the drives, and the edge to the next cycle. The end, where the run has one by
-    /// then.
-    pub fn one_cycle(&mut self, alloc: Global, cycles: u64) -> Result<Option<End>, NoMemory>
+    /// One cycle: the thread's slice, the drives, and the edge to the next cycle, within these limits. The end, where
+    /// the run has one by then.
+    pub fn one_cycle(&mut self, alloc: Global, limits: Limits) -> Result<Option<End>, NoMemory>
         requires stands { StandsSomewhere self.old }
-        requires within { self.old.cycle ≤ cycles }
+        requires within { self.old.cycle ≤ limits.cycles }
+        requires turns { 0 < limits.turns }
         ensures done { IfOk result (λ end. (design : Design) (serial : ℕ) (driven : Driven) (held : List Bit3) → Settles design.netlist design.settle
-            → StandsAt self.old design driven held → CycleDone end design cycles (state_of self.old serial driven held) self.new) }
-        ensures still { IfOk result (λ end. self.new.cycle ≤ cycles) }
+            → StandsAt self.old design driven held → CycleDone end design limits (state_of self.old serial driven held) self.new) }
+        ensures still { IfOk result (λ end. self.new.cycle ≤ limits.cycles) }
         ensures later { IfOk result (λ end. end ≡ None → self.old.cycle < self.new.cycle) }
     {
         let slice = run_slice(
             alloc,
             &mut self.agenda,
             self.cycle,
-            BUDGET,
+            limits.budget,
             &mut self.values,
             &mut self.log,
         )?;
@@ -65,7 +63,7 @@ impl<'a> Run<'a> {
         if let SliceEnd::Ended = slice {
             return Ok(Some(End::Finished));
         }
-        if self.cycle == cycles {
+        if self.cycle == limits.cycles {
             return Ok(Some(End::Limit));
         }
         self.outside.next_cycle(&mut self.values)?;

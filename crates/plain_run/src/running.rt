@@ -1,5 +1,5 @@
 //! A run from its beginning to its end.
-ghost use Rattle.std.specs.Prelude.{◌≡◌, IfOk};
+ghost use Rattle.std.specs.Prelude.{◌≡◌, ◌<◌, IfOk};
 ghost use Rattle.run_rules.specs.Designs.{Design};
 ghost use Rattle.blif_device.specs.Edges.{first_held};
 ghost use Rattle.plain_run.specs.Begun.{IsBegun};
@@ -14,7 +14,7 @@ use crate::evaluate::work::Work;
 use crate::outside::Outside;
 use blif_device::Device;
 use four_state::NoMemory;
-use run_rules::{Drive, End};
+use run_rules::{Drive, End, Limits};
 use signal_link::SignalNets;
 use std::alloc::Global;
 use vera_ast::TypedProgram;
@@ -29,22 +29,23 @@ pub struct Record {
     pub applied: Vec<Drive>,
 }
 
-/// Runs a program by one thread, up to the last cycle, against a netlist of so many nets: its new device, and the nets
-/// of each signal. A slice may take 1,000,000 ticks, and a cycle may have 1,000,000 slices.
+/// Runs a program by one thread against a netlist of so many nets: its new device, and the nets of each signal. The
+/// limits say how far: up to the last cycle, with a budget of ticks a slice, and so many slices a cycle, at least one.
 pub fn run<'a>(
     alloc: Global,
     program: &'a TypedProgram,
     nets: &'a [SignalNets],
     count: usize,
     device: Device,
-    cycles: u64,
+    limits: Limits,
 ) -> Result<Record, NoMemory>
-    requires { (design : Design) × CanRun design program.now nets.now count device }
-    ensures { IfOk result (λ told. (design : Design) → CanRun design program.now nets.now count device → RanTo design program.now cycles told) }
+    requires run { (design : Design) × CanRun design program.now nets.now count device }
+    requires turns { 0 < limits.turns }
+    ensures { IfOk result (λ told. (design : Design) → CanRun design program.now nets.now count device → RanTo design program.now limits told) }
 {
     let mut run = begun(alloc, program, nets, count, device)?;
     loop {
-        if let Some(end) = run.one_cycle(alloc, cycles)? {
+        if let Some(end) = run.one_cycle(alloc, limits)? {
             return Ok(told(run, end));
         }
     }

@@ -5,6 +5,7 @@ use Rattle.store_api.specs.Places.{Contents, nothing_written}
 use Rattle.run_rules.specs.Drives.{Drive, Driven}
 pub use Rattle.run_rules.specs.declared.end.End.{End}
 pub use Rattle.run_rules.specs.declared.end.End.TheVariants.{Finished, Limit, Fault, SpentSlice, SpentTurns}
+pub use Rattle.run_rules.specs.declared.limits.Limits.{Limits}
 
 -- a thread that is ready: the entry's serial, the thread's number and rest
 pub record Entry (R : Type 0) : Type 0 where
@@ -17,12 +18,6 @@ pub record Waiting (R : Type 0) : Type 0 where
   pub thread : ℕ
   pub edges : ℕ
   pub rest : R
-
--- the limits of a run: its last cycle, the ticks of a slice, the slices of a cycle
-pub record Limits : Type 0 where
-  pub cycles : ℕ
-  pub budget : ℕ
-  pub turns : ℕ
 
 pub record State (R : Type 0) : Type 0 where
   pub contents : Contents

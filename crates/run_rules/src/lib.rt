@@ -5,6 +5,7 @@
 mod drive;
 mod end;
 mod laws;
+mod limits;
 mod status;
 
 pub use drive::Drive;
@@ -19,6 +20,7 @@ pub use laws::runs::{ended_stays, every_run_ends, one_final};
 pub use laws::sources::{every_program_ends, one_end_of_a_testbench};
 pub use laws::statuses::each_status_has_its_own_number;
 pub use laws::turns::{spent_by_turns, text_has_a_limit, turn_of_the_first_ready, within_limits};
+pub use limits::Limits;
 pub use status::Status;
 
 #[cfg(test)]

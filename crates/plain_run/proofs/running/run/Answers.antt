@@ -6,7 +6,7 @@ pub loop-run-init : goal.loop-run-init
 loop-run-init c = at_first _ _ _ _ _ _ c.in_ok-run.ensures.begun c.in_ok-run.ensures.stands
 
 pub one_cycle-requires-clause-stands : goal.one_cycle-requires-clause-stands
-one_cycle-requires-clause-stands c = somewhere _ _ _ _ _ _ c.requires.0 c.requires.1 c.loop-run.invariant
+one_cycle-requires-clause-stands c = somewhere _ _ _ _ _ _ c.requires.run.0 c.requires.run.1 c.loop-run.invariant
 
 pub one_cycle-requires-clause-within : goal.one_cycle-requires-clause-within
 one_cycle-requires-clause-within c = c.loop-run.invariant.within

@@ -1,5 +1,4 @@
-use Rattle.std.proofs.Common.{refl}
-use Rattle.plain_run.proofs.Steps.{changes_at, other_place, other_change}
+use Rattle.plain_run.proofs.Steps.{changes_at}
 use Rattle.plain_run.proofs.evaluate.stmt.change.Goals as goal
 
 pub returns-in_ok-assign-in-Assign : goal.returns-in_ok-assign-in-Assign
