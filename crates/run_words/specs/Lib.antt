@@ -1,0 +1,4 @@
+pub mod Words
+pub mod Progress
+pub mod Views
+pub mod Ranges
