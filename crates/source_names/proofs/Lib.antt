@@ -1,0 +1,3 @@
+pub mod PlainLists
+pub mod LexedWords
+pub mod SignalNames
