@@ -1,3 +1,4 @@
 pub mod Firsts
 pub mod ExprFirsts
 pub mod StmtFirsts
+pub mod InterfaceFirsts

@@ -5,6 +5,7 @@ ghost use Rattle.not_built.specs.Lines.{first};
 ghost use Rattle.not_built.specs.NotBuilt as spec;
 ghost use Rattle.not_built.specs.Passing.{first_in};
 
+use crate::interfaces::in_interface;
 use crate::statements::in_block;
 use vera_ast::{Item, Tree};
 
@@ -15,7 +16,7 @@ fn in_item(item: &Item) -> Option<u32>
     match item {
         Item::Enumeration(enumeration) => Some(enumeration.line),
         Item::Class(class) => Some(class.line),
-        Item::Interface(_) => None,
+        Item::Interface(interface) => in_interface(interface),
         Item::Group(group) => Some(group.line),
         Item::Task(task) => Some(task.line),
         Item::Function(function) => Some(function.line),
@@ -36,7 +37,8 @@ fn in_items(items: &[Item]) -> Option<u32>
 
 /// The line of the first token of the first construct, in text order, that programs can't be run with yet. Built are
 /// interfaces, and programs with `integer` variables, blocks, assignments, drives, `while`, clock edges and
-/// `printf("%0d\n", ..)`, over sums and comparisons of names, signals and decimal numbers.
+/// `printf("%0d\n", ..)`, over sums and comparisons of names, signals and decimal numbers. The bounds of a signal's range
+/// are expressions too.
 #[tactic(auto, using(crate::proofs::Firsts::first_each))]
 pub fn not_built(tree: &Tree) -> Option<u32>
     ensures { result ≡ spec.first_not_built tree.now }

@@ -3,6 +3,7 @@
 #![tactic(auto)]
 
 mod expressions;
+mod interfaces;
 mod items;
 mod statements;
 mod unchecked;
