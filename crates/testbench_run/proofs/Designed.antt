@@ -1,5 +1,5 @@
 -- The run of a testbench against a netlist.
-use Rattle.std.proofs.Common.{◌≡◌, ℕ, List, length, map, Some, slice_get, Option, sym, ◌∙◌, ap, subst, Result, Err}
+use Rattle.std.proofs.Common.{◌≡◌, ℕ, List, length, Some, Option, sym, ◌∙◌, ap, subst}
 use Rattle.vera_ast.specs.declared.typed.file.TypedProgram.{TypedProgram}
 use Rattle.vera_ast.specs.declared.typed.file.TypedTree.{TypedTree}
 use Rattle.vera_ast.specs.declared.typed.stmt.TypedStmt.TheViews.{Block}
@@ -9,6 +9,7 @@ use Rattle.blif_read.specs.Valid.{IsValid}
 use Rattle.blif_device.specs.Devices.{State as DeviceState}
 use Rattle.blif_device.specs.Making.{IsDevice}
 use Rattle.blif_device.specs.Settled.{HasOneSettled}
+use Rattle.run_rules.specs.declared.limits.Limits.{Limits}
 use Rattle.run_rules.specs.declared.status.Status.{Status}
 use Rattle.run_rules.specs.Designs.{Design, Settle, Settles}
 use Rattle.run_rules.specs.Links.{AllLink, IsFirstUnlinked}
@@ -22,7 +23,7 @@ use Rattle.signal_link.specs.Linked.{AreNetsOf, IsLinkError}
 use Rattle.plain_run.specs.declared.running.Record.{Record}
 use Rattle.plain_run.specs.Records.{CanRun, RanTo}
 use Rattle.testbench_run.specs.declared.answer.Answer.{Answer}
-use Rattle.testbench_run.specs.Answers.{limits, RunAnswer}
+use Rattle.testbench_run.specs.Answers.{RunAnswer}
 use Rattle.testbench_run.specs.Running.{IsRunnable}
 
 -- a settled valuation for whatever is driven and held
@@ -30,9 +31,13 @@ record SettleFor (p : Parts) : Type 0 where
   settle : Settle
   settles : Settles p settle
 
+-- which limits doesn't matter
+any_limits : Limits
+any_limits = record { cycles = 0; budget = 0; turns = 0 }
+
 settle_for : (tree : TypedTree) (p : Parts) → IsRunnable tree → HasOneSettled p → SettleFor p
 settle_for tree p runnable one =
-    let ends = program-ends runnable.names.program tree p (limits 0) runnable.names.is_program one in
+    let ends = program-ends runnable.names.program tree p any_limits runnable.names.is_program one in
     record { settle = ends.2.settle; settles = ends.2.settles }
 
 abbrev design_for : (tree : TypedTree) (p : Parts) → IsRunnable tree → HasOneSettled p → Design
@@ -58,8 +63,8 @@ abbrev answer_of : Status → List ℕ → Answer
 answer_of status text = record { status = status; text = text }
 
 -- what was told of the run is its answer
-pub run_gives : (cycles : ℕ) (tree : TypedTree) (p : Parts) (program : TypedProgram) (nets : List SignalNets) (count : ℕ) (device : DeviceState) (told : Record) (status : Status) (text : List ℕ) → IsRunnable tree → IsDevice p device → program_in tree.items ≡ Some program → IsValid p → AllLink p (signals_in tree.items) → AreNetsOf p.nets (signals_in tree.items) nets → count ≡ length p.nets → ((design : Design) → CanRun design program nets count device → RanTo design program cycles told) → status ≡ status_of told.end → text ≡ report_text (signals_in tree.items) told.printed.items told.applied.items told.end told.cycle → RunAnswer cycles tree p (answer_of status text)
-run_gives cycles tree p program nets count device told status text runnable made is valid linked nets_are counted ran status_is text_is =
+pub run_gives : (limits : Limits) (tree : TypedTree) (p : Parts) (program : TypedProgram) (nets : List SignalNets) (count : ℕ) (device : DeviceState) (told : Record) (status : Status) (text : List ℕ) → IsRunnable tree → IsDevice p device → program_in tree.items ≡ Some program → IsValid p → AllLink p (signals_in tree.items) → AreNetsOf p.nets (signals_in tree.items) nets → count ≡ length p.nets → ((design : Design) → CanRun design program nets count device → RanTo design program limits told) → status ≡ status_of told.end → text ≡ report_text (signals_in tree.items) told.printed.items told.applied.items told.end told.cycle → RunAnswer limits tree p (answer_of status text)
+run_gives limits tree p program nets count device told status text runnable made is valid linked nets_are counted ran status_is text_is =
     let s = settle_for tree p runnable made.law in
     let r = ran (design_for tree p runnable made.law) (can tree p program nets count device runnable made is valid linked nets_are counted) in
     let signals = signals_in tree.items in

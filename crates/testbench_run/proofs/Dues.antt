@@ -5,8 +5,11 @@ use Rattle.std.proofs.lemmas.Grind.{common_steps}
 use Rattle.std.specs.declared.alloc.Global.{Global}
 use Rattle.vera_io.specs.Faults.{Rose}
 use Rattle.testbench_run.specs.declared.answer.Answer.{Answer}
-use Rattle.testbench_run.specs.Words.{Job}
-use Rattle.testbench_run.specs.Answers.{Reading, ReadFailed, ReadBytes, Read, ReadNetlist, CanReadNetlist, AnswersFiles, IsDue, file_limit, long_answer}
+use Rattle.run_rules.specs.declared.limits.Limits.{Limits}
+use Rattle.run_words.specs.declared.modes.Mode.{Mode}
+use Rattle.run_words.specs.Words.{Request}
+use Rattle.testbench_run.specs.Answers.{Reading, ReadFailed, ReadBytes, Read, ReadNetlist, CanReadNetlist, AnswersFiles, IsDue, file_limit}
+use Rattle.testbench_run.specs.Refusals.{long_answer}
 use Rattle.testbench_run.specs.declared.reading.FileRead.{FileRead}
 use Rattle.testbench_run.specs.declared.reading.FileRead.TheVariants.{Bytes, Refused}
 use Rattle.testbench_run.specs.Readings.{IsInPlace, IsRefusal, IsFileRead, IsDueBehind}
@@ -38,14 +41,14 @@ in_place_read : (file : List ℕ) (reading : Reading) (Next : List ℕ → Type 
 in_place_read file ReadFailed Next answer h = h
 in_place_read file (ReadBytes bytes) Next answer h = inl h
 
-pub due_refused : (job : Job) (told : List ℕ → Option (List ℕ)) (old new : List ℕ → ℕ) (answer : Answer) → IsRefusal job.testbench (codes "testbench") told old new answer → IsDue (Some job) told old new answer
-due_refused job told old new answer h =
-    let other = any_netlist job.netlist told old new in
+pub due_refused : (request : Request) (told : List ℕ → Option (List ℕ)) (old new : List ℕ → ℕ) (answer : Answer) → IsRefusal request.testbench (codes "testbench") told old new answer → IsDue (Some request) told old new answer
+due_refused request told old new answer h =
+    let other = any_netlist request.netlist told old new in
     record {
       testbench = h.reading;
       netlist = other.0;
       can_read = record { of_testbench = h.can_read; of_netlist = other.1 };
-      is_answer = in_place_read (codes "testbench") h.reading (λ source. ReadNetlist job.netlist other.0 (λ bytes. AnswersFiles job.cycles source bytes answer) answer) answer h.in_place;
+      is_answer = in_place_read (codes "testbench") h.reading (λ source. ReadNetlist request.netlist other.0 (λ bytes. AnswersFiles request.mode request.limits source bytes answer) answer) answer h.in_place;
     }
 
 rose_since : (old mid new : ℕ) → old ≤ mid → Rose mid new → Rose old new
@@ -64,19 +67,19 @@ pub read_bytes : (name file : List ℕ) (told : List ℕ → Option (List ℕ)) 
 read_bytes name file told old new read bytes is h = subst (λ (r : FileRead). IsFileRead name file told old new r) is h
 
 -- The testbench's bytes were read, and what is due behind them is due. The bytes come as a slice of themselves.
-pub due_behind : (job : Job) (told later : List ℕ → Option (List ℕ)) (old mid new : List ℕ → ℕ) (source slice : List ℕ) (answer : Answer) → slice ≡ source → (length source ≤ file_limit) × IfSome (told job.testbench) (λ file. source ≡ file) → ((n : List ℕ) → later n ≡ told n) → ((n : List ℕ) → old n ≤ mid n) → IsDueBehind job.netlist job.cycles slice later mid new answer → IsDue (Some job) told old new answer
-due_behind job told later old mid new source slice answer is read same counts due =
-    let h : IsDueBehind job.netlist job.cycles source later mid new answer = subst (λ (s : List ℕ). IsDueBehind job.netlist job.cycles s later mid new answer) is due in
+pub due_behind : (request : Request) (told later : List ℕ → Option (List ℕ)) (old mid new : List ℕ → ℕ) (source slice : List ℕ) (answer : Answer) → slice ≡ source → (length source ≤ file_limit) × IfSome (told request.testbench) (λ file. source ≡ file) → ((n : List ℕ) → later n ≡ told n) → ((n : List ℕ) → old n ≤ mid n) → IsDueBehind request.netlist request.mode request.limits slice later mid new answer → IsDue (Some request) told old new answer
+due_behind request told later old mid new source slice answer is read same counts due =
+    let h : IsDueBehind request.netlist request.mode request.limits source later mid new answer = subst (λ (s : List ℕ). IsDueBehind request.netlist request.mode request.limits s later mid new answer) is due in
     record {
       testbench = ReadBytes source;
       netlist = h.reading;
-      can_read = record { of_testbench = read.1; of_netlist = netlist_since job.netlist h.reading told later old mid new same counts h.can_read };
+      can_read = record { of_testbench = read.1; of_netlist = netlist_since request.netlist h.reading told later old mid new same counts h.can_read };
       is_answer = inr (read.0, h.is_answer);
     }
 
-pub behind_bytes : (name : List ℕ) (cycles : ℕ) (source : List ℕ) (told : List ℕ → Option (List ℕ)) (old new : List ℕ → ℕ) (bytes slice : List ℕ) (answer : Answer) → slice ≡ bytes → (length bytes ≤ file_limit) × IfSome (told name) (λ all. bytes ≡ all) → AnswersFiles cycles source (Some slice) answer → IsDueBehind (Some name) cycles source told old new answer
-behind_bytes name cycles source told old new bytes slice answer is read h = record {
+pub behind_bytes : (name : List ℕ) (mode : Mode) (limits : Limits) (source : List ℕ) (told : List ℕ → Option (List ℕ)) (old new : List ℕ → ℕ) (bytes slice : List ℕ) (answer : Answer) → slice ≡ bytes → (length bytes ≤ file_limit) × IfSome (told name) (λ all. bytes ≡ all) → AnswersFiles mode limits source (Some slice) answer → IsDueBehind (Some name) mode limits source told old new answer
+behind_bytes name mode limits source told old new bytes slice answer is read h = record {
   reading = ReadBytes bytes;
   can_read = read.1;
-  is_answer = inr (read.0, subst (λ (b : List ℕ). AnswersFiles cycles source (Some b) answer) is h);
+  is_answer = inr (read.0, subst (λ (b : List ℕ). AnswersFiles mode limits source (Some b) answer) is h);
 }

@@ -1,5 +1,5 @@
 pub mod Texts
-pub mod WordLemmas
 pub mod Ringed
 pub mod Designed
 pub mod Dues
+pub mod Causes

@@ -1,53 +1,31 @@
 -- What the program answers: a status and a text.
-use Rattle.std.specs.Prelude.{◌≡◌, ℕ, ◌<◌, ◌≤◌, ◌⊎◌, List, [], ◌++◌, Option, Some, None, Result, Ok, Err, IfSome, slice_index_or, codes, decimal, length}
+use Rattle.std.specs.Prelude.{◌≡◌, ℕ, ◌<◌, ◌≤◌, ◌⊎◌, List, [], Option, Some, None, Result, Ok, Err, IfSome, slice_index_or, codes, length}
+use Rattle.vera_ast.specs.declared.refusal.Refusal.{Refusal}
 use Rattle.vera_ast.specs.declared.typed.file.TypedTree.{TypedTree}
 use Rattle.vera_ast.specs.Signals.{NamedSignal, signals_in}
 use Rattle.vera_meaning.specs.Rests.{Rest}
 use Rattle.vera_io.specs.Faults.{Rose}
-use Rattle.blif_read.specs.declared.refusals.Refusal.{Refusal}
+use Rattle.blif_read.specs.declared.refusals.Refusal.{Refusal as NetRefusal}
 use Rattle.blif_read.specs.Netlists.{Parts, netlist}
 use Rattle.blif_device.specs.Rings.{IsOnRing, IsFirstOnRing}
-use Rattle.second_form.specs.Form.{IsSecondForm}
+use Rattle.front_end.specs.declared.purpose.Purpose.{Purpose}
+use Rattle.front_end.specs.declared.purpose.Purpose.TheVariants as purposes
+use Rattle.front_end.specs.Sources.{IsSource}
 use Rattle.run_rules.specs.declared.end.End.{End}
-use Rattle.run_rules.specs.declared.status.Status.TheVariants as statuses
 use Rattle.run_rules.specs.Links.{AllLink, IsFirstUnlinked}
-use Rattle.run_rules.specs.States.{State, Limits}
+use Rattle.run_rules.specs.declared.limits.Limits.{Limits}
+use Rattle.run_rules.specs.States.{State}
 use Rattle.run_rules.specs.Sources.{RunEnds}
-use Rattle.run_rules.specs.Reports.{report_of, signal_name, status_of, two_digits}
+use Rattle.run_rules.specs.Reports.{report_of, status_of}
 use Rattle.testbench_run.specs.declared.answer.Answer.{Answer}
-use Rattle.testbench_run.specs.Words.{Job}
+use Rattle.testbench_run.specs.Refusals.{words_answer, read_answer, long_answer, source_answer, netlist_answer, ring_answer, link_answer, accepted_answer}
+use Rattle.run_words.specs.declared.modes.Mode.{Mode}
+use Rattle.run_words.specs.declared.modes.Mode.TheVariants.{Check, Plain}
+use Rattle.run_words.specs.Words.{Request}
 
 -- how many bytes a file may have
 abbrev pub file_limit : ℕ
 file_limit = 4194304
-
--- the limits of a run with this last cycle: ticks of a slice, slices of a cycle
-abbrev pub limits : ℕ → Limits
-limits cycles = record { cycles = cycles; budget = 1000000; turns = 1000000 }
-
--- ---- answers of one line
-
-abbrev pub words_answer : Answer
-words_answer = record { status = statuses.Words; text = codes "error words\n" }
-
-abbrev pub read_answer : List ℕ → Answer
-read_answer file = record { status = statuses.ReadFault; text = codes "error read " ++ file ++ codes "\n" }
-
-abbrev pub long_answer : List ℕ → Answer
-long_answer file = record { status = statuses.TooLong; text = codes "error long " ++ file ++ codes "\n" }
-
--- the testbench has a construct that isn't built yet, or is of no form at all
-abbrev pub not_built_answer : Answer
-not_built_answer = record { status = statuses.Source; text = codes "error E90 line 1\n" }
-
-abbrev pub netlist_answer : Refusal → Answer
-netlist_answer r = record { status = statuses.Netlist; text = codes "error N" ++ two_digits r.code ++ codes " line " ++ decimal r.line ++ codes "\n" }
-
-abbrev pub ring_answer : List ℕ → Answer
-ring_answer net = record { status = statuses.Netlist; text = codes "error N10 net " ++ net ++ codes "\n" }
-
-abbrev pub link_answer : NamedSignal → Answer
-link_answer s = record { status = statuses.Link; text = codes "error link " ++ signal_name (Some s) ++ codes "\n" }
 
 -- ---- the run
 
@@ -55,10 +33,10 @@ abbrev pub run_answer : TypedTree → End → State Rest → Answer
 run_answer tree end state = record { status = status_of end; text = report_of (signals_in tree.items) state end }
 
 -- the testbench's one-thread run against the netlist gives this answer
-pub record RunAnswer (cycles : ℕ) (tree : TypedTree) (parts : Parts) (answer : Answer) : Type 0 where
+pub record RunAnswer (limits : Limits) (tree : TypedTree) (parts : Parts) (answer : Answer) : Type 0 where
   pub end : End
   pub state : State Rest
-  pub runs : RunEnds tree parts (limits cycles) end state
+  pub runs : RunEnds tree parts limits end state
   pub is : answer ≡ run_answer tree end state
 
 -- ---- the netlist, and the signals that link to it
@@ -70,10 +48,15 @@ pub record IsUnlinked (tree : TypedTree) (parts : Parts) (answer : Answer) : Typ
   pub first : IsFirstUnlinked parts (signals_in tree.items) number signal
   pub is : answer ≡ link_answer signal
 
--- all signals link, and this comes of the run
-pub record IsLinked (cycles : ℕ) (tree : TypedTree) (parts : Parts) (answer : Answer) : Type 0 where
+-- what comes of a testbench whose signals link: it is accepted, or run
+abbrev pub Behind : Mode → Limits → TypedTree → Parts → Answer → Type 0
+Behind Check limits tree parts answer = answer ≡ accepted_answer
+Behind Plain limits tree parts answer = RunAnswer limits tree parts answer
+
+-- all signals link, and this comes of it
+pub record IsLinked (mode : Mode) (limits : Limits) (tree : TypedTree) (parts : Parts) (answer : Answer) : Type 0 where
   pub linked : AllLink parts (signals_in tree.items)
-  pub run : RunAnswer cycles tree parts answer
+  pub behind : Behind mode limits tree parts answer
 
 -- nets depend on each other in a ring: the first one on a ring is told
 pub record HasRing (parts : Parts) (answer : Answer) : Type 0 where
@@ -82,42 +65,48 @@ pub record HasRing (parts : Parts) (answer : Answer) : Type 0 where
   pub is : answer ≡ ring_answer (slice_index_or parts.nets net [])
 
 -- there is no ring
-pub record HasNoRing (cycles : ℕ) (tree : TypedTree) (parts : Parts) (answer : Answer) : Type 0 where
+pub record HasNoRing (mode : Mode) (limits : Limits) (tree : TypedTree) (parts : Parts) (answer : Answer) : Type 0 where
   pub none : (net : ℕ) → IsOnRing parts.covers net → ⊥
-  pub link : IsUnlinked tree parts answer ⊎ IsLinked cycles tree parts answer
+  pub link : IsUnlinked tree parts answer ⊎ IsLinked mode limits tree parts answer
 
-abbrev pub AnswersParts : ℕ → TypedTree → Parts → Answer → Type 0
-AnswersParts cycles tree parts answer = HasRing parts answer ⊎ HasNoRing cycles tree parts answer
+abbrev pub AnswersParts : Mode → Limits → TypedTree → Parts → Answer → Type 0
+AnswersParts mode limits tree parts answer = HasRing parts answer ⊎ HasNoRing mode limits tree parts answer
 
 -- what the bytes of a netlist are answered with
-abbrev pub AnswersReading : ℕ → TypedTree → Result Parts Refusal → Answer → Type 0
-AnswersReading cycles tree (Ok parts) answer = AnswersParts cycles tree parts answer
-AnswersReading cycles tree (Err refusal) answer = answer ≡ netlist_answer refusal
+abbrev pub AnswersReading : Mode → Limits → TypedTree → Result Parts NetRefusal → Answer → Type 0
+AnswersReading mode limits tree (Ok parts) answer = AnswersParts mode limits tree parts answer
+AnswersReading mode limits tree (Err refusal) answer = answer ≡ netlist_answer refusal
 
--- the netlist where none is named
+-- the netlist of a run where none is named
 abbrev pub no_parts : Parts
 no_parts = record { nets = []; inputs = []; outputs = []; clock = None; covers = []; latches = [] }
 
-abbrev pub AnswersNetlist : ℕ → TypedTree → Option (List ℕ) → Answer → Type 0
-AnswersNetlist cycles tree None answer = AnswersParts cycles tree no_parts answer
-AnswersNetlist cycles tree (Some bytes) answer = AnswersReading cycles tree (netlist bytes) answer
+-- where no netlist is named: a check doesn't link
+abbrev pub AnswersAlone : Mode → Limits → TypedTree → Answer → Type 0
+AnswersAlone Check limits tree answer = answer ≡ accepted_answer
+AnswersAlone Plain limits tree answer = AnswersParts Plain limits tree no_parts answer
+
+abbrev pub AnswersTree : Mode → Limits → TypedTree → Option (List ℕ) → Answer → Type 0
+AnswersTree mode limits tree None answer = AnswersAlone mode limits tree answer
+AnswersTree mode limits tree (Some bytes) answer = AnswersReading mode limits tree (netlist bytes) answer
 
 -- ---- the testbench
 
--- the bytes are of a tree
-pub record IsSource (cycles : ℕ) (source : List ℕ) (netlist_bytes : Option (List ℕ)) (answer : Answer) : Type 0 where
-  pub tree : TypedTree
-  pub of_form : IsSecondForm source tree
-  pub netlist : AnswersNetlist cycles tree netlist_bytes answer
+-- what a testbench is read for
+abbrev pub purpose_of : Mode → Purpose
+purpose_of Check = purposes.Check
+purpose_of Plain = purposes.Run
 
--- the bytes are of no tree
-pub record IsRefused (source : List ℕ) (answer : Answer) : Type 0 where
-  pub other_form : (tree : TypedTree) → IsSecondForm source tree → ⊥
-  pub is : answer ≡ not_built_answer
+-- what a testbench's typed tree, or its refusal, is answered with
+abbrev pub AnswersSource : Mode → Limits → Result TypedTree Refusal → Option (List ℕ) → Answer → Type 0
+AnswersSource mode limits (Ok tree) netlist_bytes answer = AnswersTree mode limits tree netlist_bytes answer
+AnswersSource mode limits (Err refusal) netlist_bytes answer = answer ≡ source_answer refusal
 
 -- what the bytes of both files are answered with: the testbench is refused before the netlist
-abbrev pub AnswersFiles : ℕ → List ℕ → Option (List ℕ) → Answer → Type 0
-AnswersFiles cycles source netlist_bytes answer = IsRefused source answer ⊎ IsSource cycles source netlist_bytes answer
+pub record AnswersFiles (mode : Mode) (limits : Limits) (source : List ℕ) (netlist_bytes : Option (List ℕ)) (answer : Answer) : Type 0 where
+  pub tree : Result TypedTree Refusal
+  pub of_source : IsSource (purpose_of mode) source tree
+  pub is : AnswersSource mode limits tree netlist_bytes answer
 
 -- ---- reading
 
@@ -143,10 +132,10 @@ ReadNetlist (Some name) reading Next answer = Read (codes "netlist") reading (λ
 
 -- The answer to what the words ask for, where the readings went so. Files are read before anything is said of what
 -- they hold.
-abbrev pub IsAnswer : Option Job → (testbench netlist : Reading) → Answer → Type 0
+abbrev pub IsAnswer : Option Request → (testbench netlist : Reading) → Answer → Type 0
 IsAnswer None testbench netlist answer = answer ≡ words_answer
-IsAnswer (Some job) testbench netlist answer =
-    Read (codes "testbench") testbench (λ source. ReadNetlist job.netlist netlist (λ bytes. AnswersFiles job.cycles source bytes answer) answer) answer
+IsAnswer (Some r) testbench netlist answer =
+    Read (codes "testbench") testbench (λ source. ReadNetlist r.netlist netlist (λ bytes. AnswersFiles r.mode r.limits source bytes answer) answer) answer
 
 -- Reading a file can have gone so: it fails only where the count of its faults rose, and the bytes are the file's
 -- where the shelf tells them.
@@ -159,17 +148,17 @@ CanReadNetlist None reading told old new = Unit {0}
 CanReadNetlist (Some name) reading told old new = CanReadFile name reading told old new
 
 -- the readings of the files that are asked for can have gone so
-pub record CanRead (job : Job) (testbench netlist : Reading) (told : List ℕ → Option (List ℕ)) (old new : List ℕ → ℕ) : Type 0 where
-  pub of_testbench : CanReadFile job.testbench testbench told old new
-  pub of_netlist : CanReadNetlist job.netlist netlist told old new
+pub record CanRead (request : Request) (testbench netlist : Reading) (told : List ℕ → Option (List ℕ)) (old new : List ℕ → ℕ) : Type 0 where
+  pub of_testbench : CanReadFile request.testbench testbench told old new
+  pub of_netlist : CanReadNetlist request.netlist netlist told old new
 
-abbrev pub CanReadAll : Option Job → (testbench netlist : Reading) → (told : List ℕ → Option (List ℕ)) → (old new : List ℕ → ℕ) → Type 0
+abbrev pub CanReadAll : Option Request → (testbench netlist : Reading) → (told : List ℕ → Option (List ℕ)) → (old new : List ℕ → ℕ) → Type 0
 CanReadAll None testbench netlist told old new = Unit {0}
-CanReadAll (Some job) testbench netlist told old new = CanRead job testbench netlist told old new
+CanReadAll (Some request) testbench netlist told old new = CanRead request testbench netlist told old new
 
 -- an answer that is due for the words and for what the shelf gave
-pub record IsDue (job : Option Job) (told : List ℕ → Option (List ℕ)) (old new : List ℕ → ℕ) (answer : Answer) : Type 0 where
+pub record IsDue (request : Option Request) (told : List ℕ → Option (List ℕ)) (old new : List ℕ → ℕ) (answer : Answer) : Type 0 where
   pub testbench : Reading
   pub netlist : Reading
-  pub can_read : CanReadAll job testbench netlist told old new
-  pub is_answer : IsAnswer job testbench netlist answer
+  pub can_read : CanReadAll request testbench netlist told old new
+  pub is_answer : IsAnswer request testbench netlist answer

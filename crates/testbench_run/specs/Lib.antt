@@ -1,5 +1,4 @@
-pub mod Words
-pub mod Asking
+pub mod Refusals
 pub mod DriveLines
 pub mod Answers
 pub mod Readings

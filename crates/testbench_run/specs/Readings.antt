@@ -1,9 +1,12 @@
 -- How the readings of files were, as the program goes from one to the next.
-use Rattle.std.specs.Prelude.{◌≡◌, ℕ, ◌≤◌, List, length, Option, Some, None, IfSome, codes}
+use Rattle.std.specs.Prelude.{◌≡◌, ℕ, ◌≤◌, List, length, Option, IfSome}
 use Rattle.testbench_run.specs.declared.answer.Answer.{Answer}
 use Rattle.testbench_run.specs.declared.reading.FileRead.{FileRead}
 use Rattle.testbench_run.specs.declared.reading.FileRead.TheVariants.{Bytes, Refused}
-use Rattle.testbench_run.specs.Answers.{Reading, ReadFailed, ReadBytes, file_limit, read_answer, IsTooLong, CanReadFile, CanReadNetlist, ReadNetlist, AnswersFiles}
+use Rattle.run_rules.specs.declared.limits.Limits.{Limits}
+use Rattle.run_words.specs.declared.modes.Mode.{Mode}
+use Rattle.testbench_run.specs.Refusals.{read_answer}
+use Rattle.testbench_run.specs.Answers.{Reading, ReadFailed, ReadBytes, file_limit, IsTooLong, CanReadFile, CanReadNetlist, ReadNetlist, AnswersFiles}
 
 -- the answer is due in place of a file's bytes
 abbrev pub IsInPlace : (file : List ℕ) → Reading → Answer → Type 0
@@ -22,7 +25,7 @@ IsFileRead name file told old new (Bytes bytes) = (length bytes.items ≤ file_l
 IsFileRead name file told old new (Refused answer) = IsRefusal name file told old new answer
 
 -- the answer is due behind a testbench of these bytes, and this netlist's name
-pub record IsDueBehind (name : Option (List ℕ)) (cycles : ℕ) (source : List ℕ) (told : List ℕ → Option (List ℕ)) (old new : List ℕ → ℕ) (answer : Answer) : Type 0 where
+pub record IsDueBehind (name : Option (List ℕ)) (mode : Mode) (limits : Limits) (source : List ℕ) (told : List ℕ → Option (List ℕ)) (old new : List ℕ → ℕ) (answer : Answer) : Type 0 where
   pub reading : Reading
   pub can_read : CanReadNetlist name reading told old new
-  pub is_answer : ReadNetlist name reading (λ bytes. AnswersFiles cycles source bytes answer) answer
+  pub is_answer : ReadNetlist name reading (λ bytes. AnswersFiles mode limits source bytes answer) answer

@@ -4,8 +4,8 @@ use Rattle.vera_io.specs.Faults.{Rose}
 use Rattle.vera_io.specs.Sink.{taken_more, TookPart}
 use Rattle.run_rules.specs.declared.status.Status.{Status}
 use Rattle.run_rules.specs.declared.status.Status.TheVariants as statuses
+use Rattle.run_words.specs.Words.{Request}
 use Rattle.testbench_run.specs.declared.answer.Answer.{Answer}
-use Rattle.testbench_run.specs.Words.{Job}
 use Rattle.testbench_run.specs.Answers.{IsDue}
 
 -- the answer was written whole
@@ -28,10 +28,10 @@ pub record Nothing (before after : Option (List ℕ)) (status : Status) : Type 0
   pub status_is : status ≡ statuses.NoMemory
   pub taken : after ≡ before
 
-abbrev pub Tells : Option Job → (told : List ℕ → Option (List ℕ)) → (old new : List ℕ → ℕ) → (faults_before faults_after : ℕ) → (before after : Option (List ℕ)) → Status → Type 0
-Tells job told old new faults_before faults_after before after status =
-    Whole (IsDue job told old new) before after status
-    ⊎ (Part (IsDue job told old new) faults_before faults_after before after status
+abbrev pub Tells : Option Request → (told : List ℕ → Option (List ℕ)) → (old new : List ℕ → ℕ) → (faults_before faults_after : ℕ) → (before after : Option (List ℕ)) → Status → Type 0
+Tells request told old new faults_before faults_after before after status =
+    Whole (IsDue request told old new) before after status
+    ⊎ (Part (IsDue request told old new) faults_before faults_after before after status
     ⊎ Nothing before after status)
 
 -- the count of the faults of the netlist's name rose, where a netlist is named
@@ -40,12 +40,12 @@ NetlistRose None old new = ⊥
 NetlistRose (Some name) old new = Rose (old name) (new name)
 
 -- the count of the faults of a file that is asked for rose
-abbrev pub FileRose : Job → (old new : List ℕ → ℕ) → Type 0
-FileRose job old new = Rose (old job.testbench) (new job.testbench) ⊎ NetlistRose job.netlist old new
+abbrev pub FileRose : Request → (old new : List ℕ → ℕ) → Type 0
+FileRose request old new = Rose (old request.testbench) (new request.testbench) ⊎ NetlistRose request.netlist old new
 
-abbrev pub ReadingRose : Option Job → (old new : List ℕ → ℕ) → Type 0
+abbrev pub ReadingRose : Option Request → (old new : List ℕ → ℕ) → Type 0
 ReadingRose None old new = ⊥
-ReadingRose (Some job) old new = FileRose job old new
+ReadingRose (Some request) old new = FileRose request old new
 
 -- the shelf tells these bytes of the netlist, where one is named
 abbrev pub TellsNetlist : Option (List ℕ) → (told : List ℕ → Option (List ℕ)) → List ℕ → Type 0
@@ -53,9 +53,9 @@ TellsNetlist None told bytes = Unit {0}
 TellsNetlist (Some name) told bytes = told name ≡ Some bytes
 
 -- the shelf tells these bytes of the files that are asked for
-pub record TellsFiles (job : Job) (told : List ℕ → Option (List ℕ)) (source netlist : List ℕ) : Type 0 where
-  pub of_testbench : told job.testbench ≡ Some source
-  pub of_netlist : TellsNetlist job.netlist told netlist
+pub record TellsFiles (request : Request) (told : List ℕ → Option (List ℕ)) (source netlist : List ℕ) : Type 0 where
+  pub of_testbench : told request.testbench ≡ Some source
+  pub of_netlist : TellsNetlist request.netlist told netlist
 
 -- such an answer was written whole, or there was too little memory
 abbrev pub Answers : (Answer → Type 0) → (before after : Option (List ℕ)) → Status → Type 0

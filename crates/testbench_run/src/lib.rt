@@ -1,4 +1,4 @@
-//! Runs a testbench from its words to its report.
+//! Checks or runs a testbench, from its words to its answer.
 #![tactic(auto)]
 
 mod answer;
@@ -9,7 +9,6 @@ mod reading;
 mod refusals;
 mod report;
 mod top;
-mod words;
 
 pub use run_rules::Status;
 pub use top::top_plain;

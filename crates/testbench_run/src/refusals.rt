@@ -1,22 +1,37 @@
 //! Answers of one line.
 ghost use Rattle.std.specs.Prelude.{◌≡◌, ◌++◌, codes, decimal, IfOk, OnOk};
 ghost use Rattle.run_rules.specs.Reports.{two_digits};
-ghost use Rattle.testbench_run.specs.Answers.{netlist_answer, ring_answer, read_answer, long_answer};
+ghost use Rattle.testbench_run.specs.Refusals.{accepted_answer, words_answer, source_answer, netlist_answer, ring_answer, read_answer, long_answer, refusal_text};
 
 use crate::answer::Answer;
 use four_state::{NoMemory, Text};
 use itoa::Buffer;
 use run_rules::Status;
 use std::alloc::Global;
+use vera_ast::Refusal;
 
 /// An answer whose text is this line.
-pub fn line_answer(alloc: Global, status: Status, line: &[u8]) -> Result<Answer, NoMemory>
+fn line_answer(alloc: Global, status: Status, line: &[u8]) -> Result<Answer, NoMemory>
     ensures { IfOk result (λ answer. answer ≡ record { status = status; text = line.now }) }
 {
     Ok(Answer {
         status,
         text: Text::from_slice(alloc, line)?,
     })
+}
+
+/// The words ask for nothing that there is.
+pub fn words_refusal(alloc: Global) -> Result<Answer, NoMemory>
+    ensures { IfOk result (λ answer. answer ≡ words_answer) }
+{
+    line_answer(alloc, Status::Words, b"error words\n")
+}
+
+/// The files are accepted, and nothing more was asked for.
+pub fn accepted(alloc: Global) -> Result<Answer, NoMemory>
+    ensures { IfOk result (λ answer. answer ≡ accepted_answer) }
+{
+    line_answer(alloc, Status::Passed, b"accepted\n")
 }
 
 /// An answer whose line names something: a file, a net or a signal.
@@ -62,19 +77,37 @@ pub fn link_refusal(alloc: Global, signal: &[u8]) -> Result<Answer, NoMemory>
     naming_answer(alloc, Status::Link, b"error link ", signal)
 }
 
-/// The netlist has a refusal of this number, 1 to 9, in this line.
-pub fn netlist_refusal(alloc: Global, code: u8, line: u32) -> Result<Answer, NoMemory>
-    ensures { IfOk result (λ answer. answer ≡ netlist_answer (record { code = code; line = line })) }
+/// An answer whose line tells a refusal: a letter with two digits, and a line of the file.
+fn refusal_answer(
+    alloc: Global,
+    status: Status,
+    letter: &[u8],
+    code: u8,
+    line: u32,
+) -> Result<Answer, NoMemory>
+    ensures { IfOk result (λ answer. answer ≡ record { status = status; text = refusal_text letter.now code line }) }
 {
-    let mut text = Text::from_slice(alloc, b"error N")?;
+    let mut text = Text::from_slice(alloc, b"error ")?;
+    text.push_slice(letter)?;
     push_two_digits(&mut text, code)?;
     text.push_slice(b" line ")?;
     push_number(&mut text, line)?;
     text.push_slice(b"\n")?;
-    Ok(Answer {
-        status: Status::Netlist,
-        text,
-    })
+    Ok(Answer { status, text })
+}
+
+/// The testbench is refused: a number of 1 to 90, and a line.
+pub fn source_refusal(alloc: Global, refusal: Refusal) -> Result<Answer, NoMemory>
+    ensures { IfOk result (λ answer. answer ≡ source_answer refusal) }
+{
+    refusal_answer(alloc, Status::Source, b"E", refusal.code, refusal.line)
+}
+
+/// The netlist has a refusal of this number, 1 to 9, in this line.
+pub fn netlist_refusal(alloc: Global, code: u8, line: u32) -> Result<Answer, NoMemory>
+    ensures { IfOk result (λ answer. answer ≡ netlist_answer (record { code = code; line = line })) }
+{
+    refusal_answer(alloc, Status::Netlist, b"N", code, line)
 }
 
 /// Adds a number's decimal digits, at least two of them.

@@ -1,93 +1,9 @@
-//! Words and reports, with answers written by hand from their rules.
+//! Reports, written by hand from their rules.
 use crate::report::report;
-use crate::words::asked_by;
 use four_state::{Text, Vec4};
 use run_rules::{Drive, End};
 use std::alloc::Global;
-use std::process::Abort;
 use std::test::Fail;
-
-/// Compares what the words ask for.
-fn asks(
-    rt: &impl Abort,
-    words: &[&str],
-    testbench: &str,
-    netlist: Option<&str>,
-    cycles: u64,
-) -> Result<(), Fail> {
-    let asked = asked_by(words).ok_or("refused")?;
-    assert_eq!(rt; asked.testbench, testbench);
-    assert_eq!(rt; asked.netlist, netlist);
-    assert_eq!(rt; asked.cycles, cycles);
-    Ok(())
-}
-
-#[test]
-fn words_that_ask(rt: HostRuntime) -> Result<(), Fail> {
-    asks(&rt, &["plain", "t.vr"], "t.vr", None, 1000)?;
-    asks(
-        &rt,
-        &["plain", "t.vr", "t.blif"],
-        "t.vr",
-        Some("t.blif"),
-        1000,
-    )?;
-    asks(&rt, &["plain", "t.vr", "--cycles", "2"], "t.vr", None, 2)?;
-    asks(
-        &rt,
-        &["plain", "a", "b", "--cycles", "0"],
-        "a",
-        Some("b"),
-        0,
-    )?;
-    asks(
-        &rt,
-        &["plain", "a", "--cycles", "1000000"],
-        "a",
-        None,
-        1_000_000,
-    )?;
-    asks(
-        &rt,
-        &["plain", "a", "--cycles", "0000000042"],
-        "a",
-        None,
-        42,
-    )?;
-    asks(
-        &rt,
-        &["plain", "plain", "plain"],
-        "plain",
-        Some("plain"),
-        1000,
-    )
-}
-
-#[test]
-fn words_that_ask_for_nothing(rt: HostRuntime) -> Result<(), Fail> {
-    let refused: [&[&str]; 16] = [
-        &[],
-        &["plain"],
-        &["Plain", "a"],
-        &["plain", ""],
-        &["plain", "-a"],
-        &["plain", "a", "-b"],
-        &["plain", "a", "b", "c"],
-        &["plain", "a", "--cycles"],
-        &["plain", "a", "--cycle", "1"],
-        &["plain", "a", "--cycles", "1000001"],
-        &["plain", "a", "--cycles=1000001"],
-        &["plain", "a", "--cycles", "00000000042"],
-        &["plain", "a", "--cycles", "+1"],
-        &["plain", "a", "--cycles", ""],
-        &["plain", "--cycles", "1", "a"],
-        &["plain", "a", "--cycles", "1", "b"],
-    ];
-    for words in &refused {
-        assert!(rt; asked_by(words).is_none(), "{:?}", words);
-    }
-    Ok(())
-}
 
 /// A drive of this signal in cycle 1, to these bits, the highest first.
 fn drive(signal: u32, bits: &str) -> Result<Drive, Fail> {

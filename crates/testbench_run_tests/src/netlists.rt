@@ -139,7 +139,7 @@ fn the_testbench_is_refused_before_the_netlist(rt: HostRuntime) -> Result<(), Fa
         "program p { a = 1; }",
         "",
         Status::Source,
-        "error E90 line 1\n",
+        "error E30 line 1\n",
     )?;
     // Both files are read before anything is said of what they hold.
     gives(
@@ -178,5 +178,55 @@ fn signals_have_to_link(rt: HostRuntime) -> Result<(), Fail> {
     ] {
         gives(&rt, words, REGISTER, netlist, Status::Link, line)?;
     }
+    Ok(())
+}
+
+#[test]
+fn a_check_links_to_the_netlist_that_is_named(rt: HostRuntime) -> Result<(), Fail> {
+    for (netlist, status, line) in [
+        (REGISTER_NETS, Status::Passed, "accepted\n"),
+        (
+            ".model t\n.inputs d[0] d[1]\n.outputs q[0]\n.latch d[0] q[0] 0\n.end\n",
+            Status::Link,
+            "error link t.q\n",
+        ),
+        ("", Status::Netlist, "error N01 line 1\n"),
+        (
+            ".model l\n.outputs v\n.names u v\n1 1\n.names v u\n1 1\n.end\n",
+            Status::Netlist,
+            "error N10 net v\n",
+        ),
+    ] {
+        gives(&rt, "check tb.vr n.blif", REGISTER, netlist, status, line)?;
+    }
+    gives(
+        &rt,
+        "check none.vr n.blif",
+        REGISTER,
+        REGISTER_NETS,
+        Status::ReadFault,
+        "error read testbench\n",
+    )?;
+    gives(
+        &rt,
+        "check tb.vr none.blif",
+        REGISTER,
+        REGISTER_NETS,
+        Status::ReadFault,
+        "error read netlist\n",
+    )?;
+    Ok(())
+}
+
+#[test]
+fn several_interfaces_are_one_list_of_signals(rt: HostRuntime) -> Result<(), Fail> {
+    gives(
+        &rt,
+        "--cycles=3 plain tb.vr -- n.blif",
+        "program p { a.d = 1; @(posedge b.clk); b.e = 0; @(posedge CLOCK); printf(\"%0d\\n\", b.q); } interface a { output d PHOLD #1; input clk CLOCK; } interface b { input clk CLOCK; input q PSAMPLE #-1; output e PHOLD #1; }",
+        ".model m\n.inputs d e\n.outputs q\n.names d e q\n10 1\n.end\n",
+        Status::Passed,
+        "text 2\n1\ndrives 2\n0 a.d = 1\n1 b.e = 0\nverdicts 0\ncoverage 0\nend finished cycle 2\n",
+    )?;
     Ok(())
 }

@@ -23,7 +23,14 @@ fn other_words_are_refused(rt: HostRuntime) -> Result<(), Fail> {
     for text in [
         "",
         "plain",
-        "check tb.vr",
+        "check",
+        "check tb.vr --cycles 1",
+        "check tb.vr n.blif more.blif",
+        "run tb.vr",
+        "replay tb.vr --schedule s",
+        "soak 1",
+        "--cycles 1 check tb.vr",
+        "-- --cycles=1 plain tb.vr",
         "tb.vr plain",
         "plain -tb.vr",
         "plain ",
@@ -36,7 +43,9 @@ fn other_words_are_refused(rt: HostRuntime) -> Result<(), Fail> {
         "plain tb.vr --cycles x",
         "plain tb.vr --cycles -1",
         "plain tb.vr --cycle 1",
-        "plain --cycles 1 tb.vr",
+        "plain -- -tb.vr",
+        "plain tb.vr --budget 0",
+        "plain tb.vr --turns=1000000001",
         "plain tb.vr n.blif more.blif",
         "plain tb.vr n.blif --cycles 1 --cycles 1",
         "plain tb.vr -n.blif",
@@ -64,26 +73,82 @@ fn a_file_name_has_at_most_255_bytes(rt: HostRuntime) -> Result<(), Fail> {
     Ok(())
 }
 
+/// This is what the words say of the source, where nothing runs.
+fn tells(
+    rt: &(impl Abort + AllocGlobal),
+    text: &str,
+    source: &str,
+    status: Status,
+    line: &str,
+) -> Result<(), NoMemory> {
+    let words: Vec<&str> = text.split(' ').collect(rt.alloc())?;
+    let done = run_words(rt.alloc(), words.as_slice(), source)?;
+    assert_eq!(rt; done.status, status, "{text}: {source}");
+    assert_eq!(rt; done.taken.as_slice(), line.as_bytes(), "{text}: {source}");
+    Ok(())
+}
+
 #[test]
-fn other_forms_are_refused(rt: HostRuntime) -> Result<(), Fail> {
-    for source in [
-        "",
-        "program p { @0 t.a = 1; }",
-        "program p { integer a; a = 4 * 4; }",
-        "program p { integer a; b = 1; }",
-        "program p { integer a, b; }",
-        "program p { printf(\"%d\\n\", 1); }",
-        "program p { printf(\"abc",
-        "program p { integer a; a += 1; }",
-        "program p { } // p",
+fn sources_are_refused_by_the_first_rule_that_they_break(rt: HostRuntime) -> Result<(), Fail> {
+    for (source, line) in [
+        // Tokens, then the grammar, then what isn't built, then names and types.
+        ("program p { printf(\"abc", "error E02 line 1\n"),
+        (
+            "program p { integer a; a = 129'h0; } }",
+            "error E03 line 1\n",
+        ),
+        ("program p { integer a; a = 1", "error E10 line 1\n"),
+        (
+            "program p {\n integer a;\n a = b * ; }",
+            "error E10 line 3\n",
+        ),
+        (
+            "program p { integer a;\n b = 1; a = 4 * 4; }",
+            "error E90 line 2\n",
+        ),
+        ("program p { integer a;\na = b + c; }", "error E30 line 2\n"),
+        ("program p { integer a, a; }", "error E31 line 1\n"),
+        ("", "error E36 line 1\n"),
+        (" \n// nothing\n", "error E36 line 1\n"),
+        ("program p { @0 t.a = 1; }", "error E90 line 1\n"),
+        ("program p { integer a; a = 4 * 4; }", "error E90 line 1\n"),
+        (
+            "program p {\n printf(\"%d\\n\", 1);\n}",
+            "error E90 line 2\n",
+        ),
+        ("program p { integer a;\n a += 1; }", "error E90 line 2\n"),
+        ("program p {\n\n fork { } join all }", "error E90 line 3\n"),
     ] {
-        let done = run(rt.alloc(), source)?;
-        assert_eq!(rt; done.status, Status::Source, "{source}");
-        assert_eq!(rt;
-            done.taken.as_slice(),
-            b"error E90 line 1\n".as_slice(),
-            "{source}"
-        );
+        tells(&rt, "plain tb.vr", source, Status::Source, line)?;
+    }
+    Ok(())
+}
+
+#[test]
+fn a_check_tells_whether_a_source_is_accepted(rt: HostRuntime) -> Result<(), Fail> {
+    for source in [
+        "program p { }",
+        "program p { integer a; a = 4 * 4; }",
+        "program p { fork { } { } join any }",
+        "task t() { } program p { t(); printf(\"%b\", 4'bx01z); }",
+        // Signals aren't linked without a netlist.
+        "interface t { input clk CLOCK; output d PHOLD #1; } program p { @2 t.d <= 1; }",
+    ] {
+        tells(&rt, "check tb.vr", source, Status::Passed, "accepted\n")?;
+    }
+    for (source, line) in [
+        (
+            "program p { integer a, a; a = \"s\"; }",
+            "error E31 line 1\n",
+        ),
+        (
+            "program p {\n integer a; a = \"s\"; }",
+            "error E32 line 2\n",
+        ),
+        ("\nclass c { } program p { }", "error E90 line 2\n"),
+        ("program p { integer a; a = 1", "error E10 line 1\n"),
+    ] {
+        tells(&rt, "check tb.vr", source, Status::Source, line)?;
     }
     Ok(())
 }
@@ -92,7 +157,7 @@ fn other_forms_are_refused(rt: HostRuntime) -> Result<(), Fail> {
 fn a_file_has_at_most_4194304_bytes(rt: HostRuntime) -> Result<(), Fail> {
     let alloc = rt.alloc();
     for (len, status, line) in [
-        (4_194_304, Status::Source, "error E90 line 1\n"),
+        (4_194_304, Status::Source, "error E36 line 1\n"),
         (4_194_305, Status::TooLong, "error long testbench\n"),
     ] {
         let blanks = vec![in alloc; b' '; len]?;

@@ -1,4 +1,4 @@
-use crate::shelves::run;
+use crate::shelves::{run, run_words};
 use std::test::Fail;
 use testbench_run::Status;
 
@@ -26,6 +26,15 @@ fn programs_print_and_finish(rt: HostRuntime) -> Result<(), Fail> {
         (
             "program p { printf(\"%0d\\n\", 7 - (2 - 1) - 3); { { printf(\"%0d\\n\", 1); } } }",
             "text 4\n3\n1\n",
+        ),
+        // Defined names, comments, several variables, and a comparison as a value.
+        (
+            "#define LAST 2\nprogram p { /* two */ integer a, b; a = LAST; b = a < 3; printf(\"%0d\\n\", a); printf(\"%0d\\n\", b); } // end",
+            "text 4\n2\n1\n",
+        ),
+        (
+            "program p { integer a; a = 3; while (a) a = a - 1; printf(\"%0d\\n\", a); }",
+            "text 2\n0\n",
         ),
     ] {
         let done = run(rt.alloc(), source)?;
@@ -66,6 +75,19 @@ fn a_budget_that_is_just_met_is_enough(rt: HostRuntime) -> Result<(), Fail> {
     let spends =
         "program p { integer i; i = 0; while (i < 499999) i = i + 1; printf(\"%0d\\n\", i); }";
     let done = run(rt.alloc(), spends)?;
+    assert_eq!(rt; done.status, Status::Spent);
+    Ok(())
+}
+
+#[test]
+fn words_set_the_budget_of_a_slice(rt: HostRuntime) -> Result<(), Fail> {
+    // One tick for the first assignment, one for the loop, four for its tests and three for its body.
+    let source = "program p { integer i; i = 0; while (i < 3) i = i + 1; }";
+    let words = ["plain", "tb.vr", "--budget", "9"];
+    let done = run_words(rt.alloc(), &words, source)?;
+    assert_eq!(rt; done.status, Status::Passed);
+    let words = ["plain", "--budget=8", "--turns", "1", "tb.vr"];
+    let done = run_words(rt.alloc(), &words, source)?;
     assert_eq!(rt; done.status, Status::Spent);
     Ok(())
 }

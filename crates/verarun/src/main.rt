@@ -1,4 +1,5 @@
-//! `verarun plain FILE` runs a testbench, and writes its report to standard output.
+//! `verarun plain TESTBENCH [NETLIST]` runs a testbench and writes its report to standard output; `verarun check ..`
+//! only tells whether the files are accepted.
 #![tactic(auto)]
 
 use four_state::NoMemory;

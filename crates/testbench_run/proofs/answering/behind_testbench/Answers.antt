@@ -11,8 +11,8 @@ returns-in-Bytes-clause-due g c =
     let old = g.S.Shelf.faults_of c.args.shelf.now in
     let new = g.S.Shelf.faults_of c.read_file.new.shelf in
     let read = read_bytes c.in-Some.name.now (codes "netlist") told old new c.in_ok-answer-in-Some.field-0 c.in-Bytes.netlist c.in-Bytes.is c.in_ok-answer-in-Some.ensures.read in
-    subst (λ (o : Option (Bor (List ℕ))). IfOk c.files_answer-in-Bytes.result (IsDueBehind (option_map (λ name. name.now) o) c.args.cycles c.args.source.now told old new))
+    subst (λ (o : Option (Bor (List ℕ))). IfOk c.files_answer-in-Bytes.result (IsDueBehind (option_map (λ name. name.now) o) c.args.mode c.args.limits c.args.source.now told old new))
     (sym c.in-Some.is)
     (IfOk-weaker c.files_answer-in-Bytes.result _ _
-    (λ answer h. behind_bytes c.in-Some.name.now c.args.cycles c.args.source.now told old new c.in-Bytes.netlist.items c.as_slice.result.now answer c.as_slice.ensures.value read h)
+    (λ answer h. behind_bytes c.in-Some.name.now c.args.mode c.args.limits c.args.source.now told old new c.in-Bytes.netlist.items c.as_slice.result.now answer c.as_slice.ensures.value read h)
     c.files_answer-in-Bytes.ensures)
