@@ -1,0 +1,39 @@
+//! Why a line has no answer.
+
+use four_state::NoMemory;
+use std::alloc::{AllocError, AllocFailed};
+
+#[derive(Clone, Copy)]
+pub enum Problem {
+    /// No operation of this name takes these operands.
+    Unsupported,
+    NoMemory,
+}
+
+impl Problem {
+    /// What is written in place of an answer.
+    pub fn text(self) -> &'static [u8] {
+        match self {
+            Problem::Unsupported => b"unsupported operation",
+            Problem::NoMemory => b"out of memory",
+        }
+    }
+}
+
+impl From<NoMemory> for Problem {
+    fn from(_error: NoMemory) -> Problem {
+        Problem::NoMemory
+    }
+}
+
+impl From<AllocError> for Problem {
+    fn from(_error: AllocError) -> Problem {
+        Problem::NoMemory
+    }
+}
+
+impl<T: Drop> From<AllocFailed<T>> for Problem {
+    fn from(_error: AllocFailed<T>) -> Problem {
+        Problem::NoMemory
+    }
+}
