@@ -1,12 +1,12 @@
 -- Each reserved word and each sign, with the name that its number has where the grammar speaks of it.
-use Rattle.std.specs.Prelude.{◌≡◌, ℕ, List, [], ◌∷◌, Some, codes}
+use Rattle.std.specs.Prelude.{◌≡◌, ℕ, List, [], ◌∷◌, map, Some, codes}
 use Rattle.std.specs.List.{slice_get}
 use Rattle.vera_ast.specs.Codes.{word_code, sign_code}
 use Rattle.vera_ast.specs.Signs.{signs}
 use Rattle.vera_ast.specs.declared.codes.TheConstants as code
 
-abbrev pub words : List (List ℕ × ℕ)
-words =
+abbrev pub named_words : List (List ℕ × ℕ)
+named_words =
     (codes "enum", code.ENUM) ∷ (codes "class", code.CLASS) ∷ (codes "extends", code.EXTENDS) ∷
     (codes "virtual", code.VIRTUAL) ∷ (codes "task", code.TASK) ∷ (codes "new", code.NEW) ∷
     (codes "function", code.FUNCTION) ∷ (codes "var", code.VAR) ∷ (codes "integer", code.INTEGER) ∷
@@ -39,8 +39,8 @@ words =
     (codes "ONE_BLAST", code.ONE_BLAST) ∷ (codes "HAND_SHAKE", code.HAND_SHAKE) ∷ (codes "ON", code.ON) ∷
     (codes "OFF", code.OFF) ∷ []
 
-abbrev pub all_signs : List (List ℕ × ℕ)
-all_signs =
+abbrev pub named_signs : List (List ℕ × ℕ)
+named_signs =
     (codes "{", code.LEFT_BRACE) ∷ (codes "}", code.RIGHT_BRACE) ∷ (codes "(", code.LEFT_PARENTHESIS) ∷
     (codes ")", code.RIGHT_PARENTHESIS) ∷ (codes "[", code.LEFT_BRACKET) ∷ (codes "]", code.RIGHT_BRACKET) ∷
     (codes ";", code.SEMICOLON) ∷ (codes ",", code.COMMA) ∷ (codes ".", code.DOT) ∷ (codes ":", code.COLON) ∷
@@ -66,3 +66,7 @@ AreWords (p ∷ ps) = (word_code p.0 ≡ p.1) × AreWords ps
 abbrev pub AreSigns : List (List ℕ × ℕ) → Type 0
 AreSigns [] = Unit {0}
 AreSigns (p ∷ ps) = (slice_get signs p.1 ≡ Some p.0) × (sign_code p.1 ≡ p.1) × AreSigns ps
+
+-- what the numbers of these are named for, in the same order
+abbrev pub texts_of : List (List ℕ × ℕ) → List (List ℕ)
+texts_of names = map (λ p. p.0) names
