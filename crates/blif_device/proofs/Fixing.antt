@@ -22,9 +22,6 @@ use Rattle.blif_device.specs.Passes.{settle_net, pass_over, IsFixed}
 use Rattle.blif_device.proofs.Origins.{Origin, origin, slice_get_at, is_clock, is_input, is_latch, is_cover}
 
 -- ---- a source's value depends on what it reads alone
-SameOn : List ℕ → Valuation → Valuation → Type 0
-SameOn nets v w = (k : ℕ) → k < length nets → v (get_or nets k 0) ≡ w (get_or nets k 0)
-
 same_literals : (v w : Valuation) (inputs row : List ℕ) → ((k : ℕ) → k < length inputs → v (get_or inputs k 0) ≡ w (get_or inputs k 0)) → literal_values v (zip inputs row) ≡ literal_values w (zip inputs row)
 same_literals v w [] row h = refl
 same_literals v w (net ∷ inputs) [] h = refl

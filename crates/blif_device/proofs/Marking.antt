@@ -7,7 +7,7 @@ use Rattle.std.proofs.lemmas.List.Sums.{sum_by-set}
 use Rattle.std.proofs.lemmas.Bool.{cases_eq, cases_lt}
 use Rattle.blif_device.specs.Rings.{IsPath, Depends}
 use Rattle.blif_device.specs.Reaching.{is_marked, IsMarked, MarksAll, Reaches, TellsRing}
-use Rattle.blif_device.proofs.Paths.{depends_one, depends_more}
+use Rattle.blif_device.proofs.Paths.{depends_more}
 
 false_true : false ≡ true → ⊥
 false_true e = cc
@@ -17,35 +17,6 @@ marked_below marks x h = at_case (cases_lt x (length marks)) where
   at_case : (x < length marks) ⊎ (length marks ≤ x) → x < length marks
   at_case (inl lt) = lt
   at_case (inr le) = absurd (false_true (sym (get_or_past marks x false le) ∙ h))
-
--- nothing to do
-pub marks_none : (marks : List Bool) (found : List ℕ) → IsMarked marks found → MarksAll [] marks marks found found
-marks_none marks found listed = record {
-  size = refl;
-  listed = listed;
-  given = λ k lt. absurd (omega arith);
-  stays = λ x h. h;
-  only = λ x h. inl h;
-  longer = omega arith;
-  same = λ k lt. refl;
-  work = refl;
-}
-
--- a net that is marked already
-pub marks_old : (marks : List Bool) (found : List ℕ) (net : ℕ) → IsMarked marks found → is_marked marks net ≡ true → MarksAll (net ∷ []) marks marks found found
-marks_old marks found net listed there = record {
-  size = refl;
-  listed = listed;
-  given = λ k lt. at k lt;
-  stays = λ x h. h;
-  only = λ x h. inl h;
-  longer = omega arith;
-  same = λ k lt. refl;
-  work = refl;
-} where
-  at : (k : ℕ) → k < 1 → is_marked marks (get_or (net ∷ []) k 0) ≡ true
-  at zero lt = there
-  at (suc k) lt = absurd (omega arith)
 
 -- a net that wasn't
 pub marks_new : (marks : List Bool) (found : List ℕ) (net : ℕ) → IsMarked marks found → net < length marks → is_marked marks net ≡ false → MarksAll (net ∷ []) marks (set marks net true) found (found ++ net ∷ [])
@@ -120,17 +91,6 @@ marks_both xs ys a b d f g h m n = record {
     first (inr c) = inr (Contains-append_left xs ys x c)
 
 -- ---- all that a net depends on
-pub reaches_first : (reads : ℕ → List ℕ) (start : ℕ) (none marks : List Bool) (found : List ℕ) → ((x : ℕ) → is_marked none x ≡ true → ⊥) → MarksAll (reads start) none marks [] found → Reaches reads start marks found 0
-reaches_first reads start none marks found nothing m = record {
-  listed = m.listed;
-  depends = λ x h. depends x (m.only x h);
-  first = m.given;
-  next = λ j k lt. absurd (omega arith);
-} where
-  depends : (x : ℕ) → (is_marked none x ≡ true) ⊎ Contains (reads start) x → Depends reads start x
-  depends x (inl e) = absurd (nothing x e)
-  depends x (inr c) = depends_one reads start x c
-
 pub reaches_more : (reads : ℕ → List ℕ) (start : ℕ) (a b : List Bool) (f g : List ℕ) (head : ℕ) → Reaches reads start a f head → head < length f → MarksAll (reads (get_or f head 0)) a b f g → Reaches reads start b g (head + 1)
 reaches_more reads start a b f g head r lt m = record {
   listed = m.listed;

@@ -1,5 +1,5 @@
 -- What gives each net of a valid netlist its value, and what it reads.
-use Rattle.std.proofs.Common.{◌≡◌, ◌≢◌, ℕ, zero, suc, ◌<◌, ◌≤◌, Bool, true, false, cond, List, [], ◌∷◌, length, get_or, refl, sym, ◌∙◌, ap, arith, subst, ◌⊎◌, inl, inr, eqb, All, Contains, Some, None, Option, filter, flat_map, append-nil}
+use Rattle.std.proofs.Common.{◌≡◌, ◌≢◌, ℕ, zero, suc, ◌<◌, ◌≤◌, Bool, true, false, cond, List, [], ◌∷◌, length, get_or, refl, sym, ◌∙◌, ap, arith, ◌⊎◌, inl, inr, eqb, All, Contains, Some, None, Option, filter, flat_map, append-nil}
 use Rattle.std.specs.List.{AllPairs, slice_get}
 use Rattle.std.proofs.lemmas.List.{get_or_past}
 use Rattle.std.proofs.lemmas.Bool.{cases_eq, cases_lt}
@@ -12,7 +12,6 @@ use Rattle.blif_device.specs.declared.sources.Source.{Source}
 use Rattle.blif_device.specs.declared.sources.Source.TheVariants as source
 use Rattle.blif_device.specs.Sources.{IsTable, source_at, source_reads, table_reads, inputs_of}
 use Rattle.blif_device.specs.Rings.{reads}
-use Rattle.blif_device.specs.Orders.{ReadsBelow}
 use Rattle.blif_device.proofs.Drivers.{search_net, count_none, covers_distinct}
 
 pub data Origin (p : Parts) (table : List Source) (net : ℕ) : Type 0 where
@@ -114,12 +113,6 @@ reads_of_none p net h = ap (λ (cs : List NetCover). flat_map (λ c. c.inputs) c
 cover_latch : (j k : ℕ) → source.Cover j ≡ source.Latch k → ⊥
 cover_latch j k e = cc
 
-cover_driven : (j : ℕ) → source.Cover j ≡ source.Driven → ⊥
-cover_driven j e = cc
-
-cover_clock : (j : ℕ) → source.Cover j ≡ source.Clock → ⊥
-cover_clock j e = cc
-
 -- the table's reads are the netlist's
 pub same_reads : (p : Parts) (table : List Source) → IsValid p → IsTable p table → (net : ℕ) → table_reads p.covers table net ≡ reads p.covers net
 same_reads p table v t net = by_cover (search_net (λ (c : NetCover). c.output) net p.covers) where
@@ -136,18 +129,3 @@ same_reads p table v t net = by_cover (search_net (λ (c : NetCover). c.output) 
   by_cover : All (λ c. c.output ≢ net) p.covers ⊎ ((k : ℕ) × (k < length p.covers) × ((d : NetCover) → (get_or p.covers k d).output ≡ net)) → table_reads p.covers table net ≡ reads p.covers net
   by_cover (inl h) = none h (cases_lt net (length p.nets)) ∙ sym (reads_of_none p net h)
   by_cover (inr c) = ap (source_reads p.covers) (cover_source p table net c.0 t c.1 c.2) ∙ sym (reads_of_cover p net c.0 v c.1 c.2)
-
--- and lie below the number of nets
-pub reads_below : (p : Parts) (table : List Source) → IsValid p → IsTable p table → ReadsBelow (table_reads p.covers table) (length table)
-reads_below p table v t net k lt klt = by_origin (origin p table net v t (omega (arith, t.size))) where
-  nothing : (s : Source) → source_at table net ≡ s → source_reads p.covers s ≡ [] → get_or (table_reads p.covers table net) k 0 < length table
-  nothing s e empty = absurd (omega (arith, ap (length {A = ℕ}) (ap (source_reads p.covers) e ∙ empty)))
-
-  by_origin : Origin p table net → get_or (table_reads p.covers table net) k 0 < length table
-  by_origin (is_clock e s) = nothing source.Clock s refl
-  by_origin (is_input e ne s) = nothing source.Driven s refl
-  by_origin (is_latch j jlt out s) = nothing (source.Latch j) s refl
-  by_origin (is_cover j jlt out s) =
-      let d = some_cover p.covers j jlt in
-      let is : table_reads p.covers table net ≡ (get_or p.covers j d).inputs = ap (source_reads p.covers) s ∙ ap inputs_of (slice_get_at p.covers j d jlt) in
-      subst (λ (xs : List ℕ). get_or xs k 0 < length table) (sym is) (subst (λ (n : ℕ). get_or (get_or p.covers j d).inputs k 0 < n) (sym t.size) ((v.covers j d jlt).inputs k 0 (subst (λ (xs : List ℕ). k < length xs) is klt)))

@@ -20,6 +20,3 @@ depends_one reads a b r = record { between = []; path = r }
 
 pub depends_more : (reads : ℕ → List ℕ) (a b c : ℕ) → Depends reads a b → Contains (reads b) c → Depends reads a c
 depends_more reads a b c d r = record { between = d.between ++ b ∷ []; path = path-push reads a d.between b c d.path r }
-
-pub depends_both : (reads : ℕ → List ℕ) (a b c : ℕ) → Depends reads a b → Depends reads b c → Depends reads a c
-depends_both reads a b c d e = record { between = d.between ++ b ∷ e.between; path = path-append reads a d.between b e.between c d.path e.path }

@@ -21,9 +21,6 @@ mark_other marks net x m ne = get_or-set_other marks net x m New ne
 apart : (marks : List Mark) (x y : ℕ) (m n : Mark) → mark_at marks x ≡ m → mark_at marks y ≡ n → (m ≡ n → ⊥) → x ≢ y
 apart marks x y m n hx hy ne e = ne (sym hx ∙ ap (mark_at marks) e ∙ hy)
 
-new_open : (k : ℕ) → New ≡ Open k → ⊥
-new_open k e = cc
-
 done_open : (k : ℕ) → Done ≡ Open k → ⊥
 done_open k e = cc
 
@@ -275,9 +272,6 @@ ring_found reads n marks left path order net m place w some last in_reads is_ope
     subst (λ (a : ℕ). Depends reads a (get_or (reads net) m 0)) at.1 (leads_on reads n marks left path order net m w some last in_reads place at.0)
 
 -- ---- steps
-new_counts : Mark → ℕ
-new_counts m = cond (is_new m) 1 0
-
 pub fewer_enter : (marks : List Mark) (left path : List ℕ) (net k : ℕ) → net < length marks → mark_at marks net ≡ New → steps_left (set marks net (Open k)) left (path ++ net ∷ []) < steps_left marks left path
 fewer_enter marks left path net k lt new =
     omega (arith, sum_by-set (λ (m : Mark). cond (is_new m) 1 0) marks net (Open k) New lt, ap {B = ℕ} (λ (m : Mark). cond (is_new m) 1 0) new, length_push path net)

@@ -14,8 +14,3 @@ mod sources;
 mod walk;
 
 pub use device::{Device, DeviceError};
-
-#[cfg(test)]
-mod netlists;
-#[cfg(test)]
-mod tests;

@@ -77,9 +77,6 @@ none_passes p (x ∷ xs) net e h =
 meet_none : (xs ys : List ℕ) (net : ℕ) → meet xs ys ≡ false → is_in ys net ≡ true → is_in xs net ≡ false
 meet_none xs ys net e h = none_passes (is_in xs) ys net e h
 
-meet_none_back : (xs ys : List ℕ) (net : ℕ) → meet xs ys ≡ false → is_in xs net ≡ true → is_in ys net ≡ false
-meet_none_back xs ys net e h = not_true _ (λ k. true_false _ h (meet_none xs ys net e k))
-
 pub in_append : (xs ys : List ℕ) (net : ℕ) → is_in (xs ++ ys) net ≡ true → (is_in xs net ≡ true) ⊎ (is_in ys net ≡ true)
 in_append xs ys net h = or_some _ _ (sym (is_in-append xs ys net) ∙ h)
 

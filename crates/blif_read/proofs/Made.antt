@@ -57,10 +57,6 @@ pub not_refused : (rs : List Refusal) (p : Parts) → rs ≡ [] → unless_refus
 not_refused [] p e = refl
 not_refused (x ∷ rs) p e = cc
 
--- a refusal of the lines, of N03, or none
-pub refused_line : (xs ys : List Refusal) (p : Parts) (r : Refusal) → Some r ≡ slice_get xs 0 → unless_refused (xs ++ ys) p ≡ Err r
-refused_line xs ys p r e = refused_if (xs ++ ys) p r (first-append_some xs ys r (sym e))
-
 pub refused_undriven : (xs ys : List Refusal) (p : Parts) (r : Refusal) → None ≡ slice_get xs 0 → Some r ≡ slice_get ys 0 → unless_refused (xs ++ ys) p ≡ Err r
 refused_undriven xs ys p r e f = refused_if (xs ++ ys) p r (first-append_none xs ys (sym e) ∙ sym f)
 

@@ -1,12 +1,9 @@
 -- What marks say after one more net.
-use Rattle.std.proofs.Common.{◌≡◌, ℕ, ◌+◌, ◌<◌, ◌≤◌, Bool, true, false, ◌||◌, List, [], ◌∷◌, ◌++◌, length, take, get_or, set, refl, sym, ◌∙◌, ap, append_assoc, append-nil, arith, subst, ◌⊎◌, inl, inr, eqb, get_or-set_other, get_or-set_same, drop}
+use Rattle.std.proofs.Common.{◌≡◌, ℕ, ◌+◌, ◌<◌, ◌≤◌, Bool, true, false, ◌||◌, List, [], ◌∷◌, ◌++◌, length, take, get_or, refl, sym, ◌∙◌, ap, append_assoc, append-nil, subst, eqb, drop}
 use Rattle.std.specs.List.{list_any}
 use Rattle.std.proofs.lemmas.List.Folds.{list_any-append}
-use Rattle.std.proofs.lemmas.Bool.{cases_eq}
 use Rattle.std.proofs.lemmas.Cmp.{nat_eq_equiv}
-use Rattle.std.proofs.lemmas.List.{at_drop_more, at_drop_all, take_more, take_all}
-use Rattle.std.proofs.Math.ListN.{length-set}
-use Rattle.std.proofs.lemmas.Bool.Decides.{Decides-eqb}
+use Rattle.std.proofs.lemmas.List.{at_drop_more, at_drop_all, take_more}
 use Rattle.blif_read.specs.Refusals.{is_in, meet, has_repeat}
 use Rattle.blif_read.specs.Sets.{IsSet, clashes}
 
@@ -30,34 +27,10 @@ any_push p xs y = list_any-append p xs (y ∷ []) ∙ ap (λ b. list_any p xs ||
 pub eq_symm : (x y : ℕ) → eqb x y ≡ eqb y x
 eq_symm x y = nat_eq_equiv.symm x y
 
-set-push : (marks : List Bool) (xs : List ℕ) (n net : ℕ) → net < length marks → get_or marks net false ≡ is_in xs net → (net ≡ n) ⊎ (net ≡ n → ⊥) → get_or (set marks n true) net false ≡ is_in (xs ++ n ∷ []) net
-set-push marks xs n net lt e (inl same) =
-    subst (λ (m : ℕ). get_or (set marks m true) net false ≡ is_in (xs ++ n ∷ []) net) same (get_or-set_same marks net true false lt ∙ sym (is_in-push xs n net ∙ ap (λ b. is_in xs net || b) ((Decides-eqb net n).1 same) ∙ or_true_right (is_in xs net)))
-set-push marks xs n net lt e (inr ne) =
-    get_or-set_other marks n net true false ne ∙ e ∙ sym (is_in-push xs n net ∙ ap (λ b. is_in xs net || b) (not_same (eqb net n) refl) ∙ or_false_right (is_in xs net)) where
-      not_same : (b : Bool) → eqb net n ≡ b → eqb net n ≡ false
-      not_same true h = absurd (ne ((Decides-eqb net n).0 h))
-      not_same false h = h
-
-pub IsSet-push : (marks : List Bool) (xs : List ℕ) (n : ℕ) → IsSet marks xs → IsSet (set marks n true) (xs ++ n ∷ [])
-IsSet-push marks xs n h = record { has = λ net lt. let below : net < length marks = omega (arith, length-set marks n true) in set-push marks xs n net below (h.has net below) (cases_eq net n) }
-
 -- ---- a list of nets, one at a time
-pub meet-next : (known nets : List ℕ) (i net : ℕ) → i < length nets → net ≡ get_or nets i net → meet known (drop i nets) ≡ (is_in known net || meet known (drop (i + 1) nets))
-meet-next known nets i net lt at = at_drop_more (meet known) nets i net lt ∙ ap (λ n. is_in known n || meet known (drop (i + 1) nets)) (sym at)
-
-pub meet-end : (known nets : List ℕ) (i : ℕ) → length nets ≤ i → meet known (drop i nets) ≡ false
-meet-end known nets i le = at_drop_all (meet known) nets i le
-
 pub set-next : (marks : List Bool) (known nets : List ℕ) (i net : ℕ) → i < length nets → net ≡ get_or nets i net → IsSet marks ((known ++ take i nets) ++ net ∷ []) → IsSet marks (known ++ take (i + 1) nets)
 set-next marks known nets i net lt at h =
     subst (λ (xs : List ℕ). IsSet marks xs) (append_assoc known (take i nets) (net ∷ []) ∙ ap (λ xs. known ++ xs) (ap (λ n. take i nets ++ n ∷ []) at ∙ sym (take_more nets i net lt))) h
-
-pub set-first : (marks : List Bool) (known : List ℕ) → IsSet marks known → IsSet marks (known ++ [])
-set-first marks known h = subst (λ (xs : List ℕ). IsSet marks xs) (sym (append-nil known)) h
-
-pub set-all : (marks : List Bool) (known nets : List ℕ) (i : ℕ) → length nets ≤ i → IsSet marks (known ++ take i nets) → IsSet marks (known ++ nets)
-set-all marks known nets i le h = subst (λ (xs : List ℕ). IsSet marks (known ++ xs)) (take_all i nets le) h
 
 -- ---- clashes
 meet-push : (known ys : List ℕ) (y : ℕ) → meet (known ++ y ∷ []) ys ≡ (meet known ys || is_in ys y)

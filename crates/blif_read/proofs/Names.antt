@@ -103,10 +103,6 @@ number-cons k ks name = by_test (bytes_eq name k) where
   by_test true = refl
   by_test false = refl
 
-known-cons : (k : Name) (ks : List Name) (name : Name) → is_known (k ∷ ks) name ≡ (bytes_eq name k || is_known ks name)
-unfolding is_known
-known-cons k ks name = refl
-
 append_by : (b : Bool) (m n : ℕ) → (b ≡ false → m ≡ n) → cond b 0 (1 + m) ≡ cond b 0 (1 + n)
 append_by true m n h = refl
 append_by false m n h = ap (λ x. 1 + x) (h refl)

@@ -22,8 +22,3 @@ mod words;
 
 pub use netlist::{Latch, NetCover, Netlist};
 pub use reading::{NetError, read};
-
-#[cfg(test)]
-mod netlists;
-#[cfg(test)]
-mod tests;

@@ -10,7 +10,7 @@ use Rattle.vera_lex.proofs.OneResult.{one_result}
 use Rattle.vera_parse.proofs.Answered.{tree_alone, apart, refusal_alone}
 use Rattle.typing_rules.specs.Answers.{Answers}
 use Rattle.front_end.specs.declared.purpose.Purpose.{Purpose}
-use Rattle.front_end.specs.Answer.{IsAnswer}
+use Rattle.front_end.specs.Answer.{ReadsSource}
 use Rattle.front_end.specs.Sources.{IsSource, IsParsed, OfTree, OfTokens}
 
 one_parse : (tokens : List Token) (a b : Result Tree Refusal) → IsParsed tokens a → IsParsed tokens b → a ≡ b
@@ -33,7 +33,7 @@ one_source purpose bytes a b h k =
     of_same_tokens purpose k.tokens a b (subst (λ (o : Result (List Token) Refusal). OfTokens purpose o a) (one_result bytes h.tokens k.tokens h.is_lexed k.is_lexed) h.of_tokens) k.of_tokens
 
 -- so what is answered is the one answer
-pub no_other : (purpose : Purpose) (bytes : List ℕ) (result : Result TypedTree FrontError) → IsAnswer purpose bytes result → (answer : Result TypedTree Refusal) → IsSource purpose bytes answer → Answers answer result
+pub no_other : (purpose : Purpose) (bytes : List ℕ) (result : Result TypedTree FrontError) → ReadsSource purpose bytes result → (answer : Result TypedTree Refusal) → IsSource purpose bytes answer → Answers answer result
 no_other purpose bytes (Ok tree) h answer is = one_source purpose bytes answer (Ok tree) is h
 no_other purpose bytes (Err (Refused r)) h answer is = one_source purpose bytes answer (Err r) is h
 no_other purpose bytes (Err NoMemory) h answer is = tt

@@ -17,7 +17,7 @@ use Rattle.typing_laws.proofs.SignalsApart.{signals_apart}
 use Rattle.source_names.proofs.LexedWords.{plain_words}
 use Rattle.source_names.proofs.SignalNames.{plain_signals}
 use Rattle.front_end.specs.declared.purpose.Purpose.{Purpose}
-use Rattle.front_end.specs.Answer.{IsAnswer}
+use Rattle.front_end.specs.Answer.{ReadsSource}
 use Rattle.front_end.specs.Sources.{IsSource, IsParsed, OfTree, OfTokens, left_out, typed_unless}
 
 -- the way from the bytes to the typed tree
@@ -55,14 +55,14 @@ apart purpose bytes t s =
     signals_apart w.tree t (plain_signals w.tokens w.tree (plain_words bytes w.tokens w.is_lexed) w.parses) w.is_typed
 
 -- the same of what is answered
-pub answer_has_program : (purpose : Purpose) (bytes : List ℕ) (result : Result TypedTree FrontError) → IsAnswer purpose bytes result → IfOk result HasOneProgram
+pub answer_has_program : (purpose : Purpose) (bytes : List ℕ) (result : Result TypedTree FrontError) → ReadsSource purpose bytes result → IfOk result HasOneProgram
 answer_has_program purpose bytes (Ok t) h = has_program purpose bytes t h
 answer_has_program purpose bytes (Err e) h = tt
 
-pub answer_names_signals : (purpose : Purpose) (bytes : List ℕ) (result : Result TypedTree FrontError) → IsAnswer purpose bytes result → IfOk result NamesItsSignals
+pub answer_names_signals : (purpose : Purpose) (bytes : List ℕ) (result : Result TypedTree FrontError) → ReadsSource purpose bytes result → IfOk result NamesItsSignals
 answer_names_signals purpose bytes (Ok t) h = names_signals purpose bytes t h
 answer_names_signals purpose bytes (Err e) h = tt
 
-pub answer_apart : (purpose : Purpose) (bytes : List ℕ) (result : Result TypedTree FrontError) → IsAnswer purpose bytes result → IfOk result (λ t. AreApart (signals_in t.items))
+pub answer_apart : (purpose : Purpose) (bytes : List ℕ) (result : Result TypedTree FrontError) → ReadsSource purpose bytes result → IfOk result (λ t. AreApart (signals_in t.items))
 answer_apart purpose bytes (Ok t) h = apart purpose bytes t h
 answer_apart purpose bytes (Err e) h = tt

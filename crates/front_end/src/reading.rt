@@ -4,7 +4,7 @@ ghost use Rattle.vera_ast.specs.declared.typed.file.TypedTree.{TypedTree as Type
 ghost use Rattle.vera_ast.specs.Signals.{signals_in, AreApart};
 ghost use Rattle.typing_rules.specs.Answers.{Answers};
 ghost use Rattle.typing_laws.specs.Trees.{HasOneProgram, NamesItsSignals};
-ghost use Rattle.front_end.specs.Answer.{IsAnswer, IsTold};
+ghost use Rattle.front_end.specs.Answer.{ReadsSource, ReadsTokens};
 ghost use Rattle.front_end.specs.Sources.{IsSource, left_out, typed_unless};
 
 use crate::purpose::Purpose;
@@ -37,7 +37,7 @@ fn typed(alloc: Global, tree: &Tree, purpose: Purpose) -> Result<TypedTree, Fron
 
 /// What comes of the tokens.
 fn of_tokens(alloc: Global, tokens: &[Token], purpose: Purpose) -> Result<TypedTree, FrontError>
-    ensures { IsTold purpose tokens.now result }
+    ensures { ReadsTokens purpose tokens.now result }
 {
     let tree = parse(alloc, tokens)?;
     typed(alloc, &tree, purpose)
@@ -46,7 +46,7 @@ fn of_tokens(alloc: Global, tokens: &[Token], purpose: Purpose) -> Result<TypedT
 /// What comes of the bytes.
 fn of_bytes(alloc: Global, bytes: &[u8], purpose: Purpose) -> Result<TypedTree, FrontError>
     requires { length bytes.now < 4294967295 }
-    ensures { IsAnswer purpose bytes.now result }
+    ensures { ReadsSource purpose bytes.now result }
 {
     let tokens = lex(alloc, bytes)?;
     of_tokens(alloc, tokens.as_slice(), purpose)
@@ -61,7 +61,7 @@ fn of_bytes(alloc: Global, bytes: &[u8], purpose: Purpose) -> Result<TypedTree, 
 /// - E30 to E39: the rules of names and types.
 pub fn read_source(alloc: Global, bytes: &[u8], purpose: Purpose) -> Result<TypedTree, FrontError>
     requires { length bytes.now < 4294967295 }
-    ensures source { IsAnswer purpose bytes.now result }
+    ensures source { ReadsSource purpose bytes.now result }
 
     // No other answer would be right, unless memory runs out.
     ensures only { (answer : Result TypedTreeOf RefusalOf) → IsSource purpose bytes.now answer → Answers answer result }

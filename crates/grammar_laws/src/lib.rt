@@ -12,6 +12,3 @@ pub use example::{
     example_refusals_exclude_each_other, example_refuses_exactly, example_shares_beginnings,
 };
 pub use fault::{Fault, Why};
-
-#[cfg(test)]
-mod tests;

@@ -26,7 +26,7 @@ use Rattle.plain_run.specs.declared.outside.Outside.{Outside}
 use Rattle.plain_run.specs.Joining.{sample_taken}
 use Rattle.plain_run.specs.Outsides.{IsLinked, StandsFor, NextCycle, undriven, last_at}
 use Rattle.plain_run.proofs.Applying.{signal_at}
-use Rattle.plain_run.proofs.Sampling.{sampled_first, sampled_more, sampled_all}
+use Rattle.plain_run.proofs.Sampling.{sampled_more, sampled_all}
 
 -- ---- nothing was driven
 
@@ -83,9 +83,6 @@ signal_width names signals all n found are below at =
 -- the samples of so many signals were taken
 abbrev pub Sampled : List SignalNets → Valuation → ℕ → Contents → Contents → Type 0
 Sampled all value n before now = (names : List (List ℕ)) (signals : List NamedSignal) → AreNetsOf names signals all → now ≡ sampled names (take n signals) value before
-
-pub sampled_begins : (all : List SignalNets) (value : Valuation) (before : Contents) → Sampled all value 0 before before
-sampled_begins all value before = λ names signals are. sampled_first names signals value before
 
 pub sampled_goes_on : (all : List SignalNets) (value : Valuation) (n : ℕ) (before now next : Contents) (found : SignalNets) → n < length all → found ≡ get_or all n found → next ≡ sample_taken value found n now → Sampled all value n before now → Sampled all value (n + 1) before next
 sampled_goes_on all value n before now next found below at taken so_far = λ names signals are.

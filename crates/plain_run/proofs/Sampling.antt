@@ -114,12 +114,5 @@ sampled_more names signals value before n s is =
     let next : n + 1 ≡ suc n = omega arith in
     ap (λ m. sampled names (take m signals) value before) next ∙ sampled_next names signals value before n s is
 
-sampled_none : (names : List (List ℕ)) (value : ℕ → Bit3) (before : Contents) (l : Loc) → before l ≡ sampled names [] value before l
-sampled_none names value before (Global m) = refl
-sampled_none names value before (Sample m) = refl
-
-pub sampled_first : (names : List (List ℕ)) (signals : List NamedSignal) (value : ℕ → Bit3) (before : Contents) → before ≡ sampled names (take 0 signals) value before
-sampled_first names signals value before = λ i l. sampled_none names value before l i
-
 pub sampled_all : (names : List (List ℕ)) (signals : List NamedSignal) (value : ℕ → Bit3) (before : Contents) (n : ℕ) → length signals ≤ n → sampled names (take n signals) value before ≡ sampled names signals value before
 sampled_all names signals value before n past = ap (λ (ss : List NamedSignal). sampled names ss value before) (take_all n signals past)

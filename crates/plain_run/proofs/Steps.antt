@@ -1,5 +1,5 @@
 -- The steps of a slice's walk.
-use Rattle.std.proofs.Common.{◌≡◌, ◌≢◌, ℕ, zero, suc, ◌<◌, ◌≤◌, List, [], ◌∷◌, ◌++◌, map, Option, Some, None, Bool, true, false, cond, if◌then◌else◌, refl, sym, ap, ◌∙◌, subst, arith}
+use Rattle.std.proofs.Common.{◌≡◌, ℕ, zero, suc, ◌<◌, ◌≤◌, List, [], ◌∷◌, ◌++◌, map, Option, Some, None, Bool, true, false, cond, if◌then◌else◌, refl, sym, ap, ◌∙◌, subst, arith}
 use Rattle.four_state.specs.declared.bit.Bit.{Bit}
 use Rattle.store_api.specs.Places.{Contents}
 use Rattle.store_api.specs.declared.loc.Loc.{Loc}
@@ -122,15 +122,6 @@ assigned v e of bits result c d of_is gives result_is put = λ ticks next es.
     gives ticks (λ b left. written_at (place_of v.place) (fitted (type_of e) v.of b) (next left)) es
     ∙ (writes (place_of v.place) (fitted (type_of e) v.of bits) c (next ticks) es
     ∙ ap (λ x. walked_from (next ticks) x es) (sym (put ∙ ap (λ b. written (place_of v.place) b c) is)))
-
--- other changes
-pub other_place : (target : TypedPlace) (change : TypedChange) (c : Contents) → ((v : TypedVariable) → target ≢ places.Variable v) → Changes target change c c
-other_place (places.Variable v) change c other = absurd (other v refl)
-other_place target change c other = λ ticks next es. refl
-
-pub other_change : (v : TypedVariable) (change : TypedChange) (c : Contents) → ((e : TypedExpr) → change ≢ Assign e) → Changes (places.Variable v) change c c
-other_change v (Assign e) c other = absurd (other e refl)
-other_change v change c other = λ ticks next es. refl
 
 -- the same of an equal place and an equal change
 pub changes_at : (target place : TypedPlace) (change changed : TypedChange) (c d : Contents) → target ≡ place → change ≡ changed → Changes place changed c d → Changes target change c d

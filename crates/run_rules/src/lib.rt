@@ -22,6 +22,3 @@ pub use laws::statuses::each_status_has_its_own_number;
 pub use laws::turns::{spent_by_turns, text_has_a_limit, turn_of_the_first_ready, within_limits};
 pub use limits::Limits;
 pub use status::Status;
-
-#[cfg(test)]
-mod tests;

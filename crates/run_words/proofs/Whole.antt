@@ -5,9 +5,9 @@ use Rattle.run_rules.specs.declared.limits.Limits.{Limits}
 use Rattle.run_words.specs.declared.modes.Mode.{Mode}
 use Rattle.run_words.specs.declared.modes.OptionName.{OptionName}
 use Rattle.run_words.specs.declared.modes.OptionName.TheVariants as options
-use Rattle.run_words.specs.Words.{Request, Item, Name, Value, names, values, limits_from, limits_of, request_for, request_named, request_from, number_for, takes, mode_named}
+use Rattle.run_words.specs.Words.{Request, Item, Name, Value, names, values, limits_from, request_for, request_named, request_from, number_for, takes, mode_named}
 use Rattle.run_words.specs.Words as spec
-use Rattle.run_words.specs.Progress.{Names, Nothing, OfMode, Testbench, WithNetlist, Found, found, nothing_found, add_all, one_more, first_number}
+use Rattle.run_words.specs.Progress.{Names, Nothing, OfMode, Testbench, WithNetlist, Found, found, nothing_found, add_all, first_number}
 use Rattle.run_words.specs.Progress as progress
 
 -- the number of an option, where it may have one already
@@ -40,9 +40,6 @@ ends mode option (Some n) = refl
 
 limits_end : (mode : Mode) (c b t : Option ℕ) → limits_from (progress.limit mode options.Cycles c) (progress.limit mode options.Budget b) (progress.limit mode options.Turns t) ≡ limits_after c b t [] mode
 limits_end mode c b t = rw (ends mode options.Cycles c, ends mode options.Budget b, ends mode options.Turns t) refl
-
-no_cycles : (b t : Option ℕ) → None ≡ limits_from None b t
-no_cycles b t = refl
 
 no_budget : (c t : Option ℕ) → None ≡ limits_from c None t
 no_budget None t = refl

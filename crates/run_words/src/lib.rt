@@ -9,6 +9,3 @@ mod words;
 
 pub use modes::{Mode, OptionName};
 pub use reading::{Request, read_words};
-
-#[cfg(test)]
-mod tests;

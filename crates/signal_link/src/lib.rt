@@ -15,6 +15,3 @@ mod roles;
 pub use labels::signal_names;
 pub use laws::only_clocks_link_without_a_netlist;
 pub use linking::{LinkError, SignalNets, link};
-
-#[cfg(test)]
-mod tests;

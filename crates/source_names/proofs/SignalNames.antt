@@ -22,15 +22,15 @@ use Rattle.vera_ast.specs.declared.tree.items.Item.TheVariants as item
 use Rattle.vera_ast.specs.declared.tree.items.Parameter.{Parameter}
 use Rattle.vera_ast.specs.declared.tree.items.Tree.{Tree}
 use Rattle.vera_ast.specs.declared.tree.statements.Block.{Block}
-use Rattle.vera_parse.specs.declared.trees.Name.{Name}
+use Rattle.parse_cursor.specs.declared.trees.Name.{Name}
 use Rattle.vera_parse.specs.Answer.{Parses}
-use Rattle.vera_parse.specs.Declarations.{range}
-use Rattle.vera_parse.specs.Expressions.{expr}
+use Rattle.parse_stmts.specs.Declarations.{range}
+use Rattle.parse_exprs.specs.Expressions.{expr}
 use Rattle.vera_parse.specs.Grammar.{file}
 use Rattle.vera_parse.specs.Interfaces as interfaces
 use Rattle.vera_parse.specs.Items as items
-use Rattle.vera_parse.specs.Lists as lists
-use Rattle.vera_parse.specs.Tokens as tokens
+use Rattle.parse_cursor.specs.Lists as lists
+use Rattle.parse_cursor.specs.Tokens as tokens
 use Rattle.source_names.specs.Words.{HasPlainWords}
 use Rattle.source_names.proofs.PlainLists.{Each, each_joined, each_at, each_plain, PlainKind, PlainToken}
 

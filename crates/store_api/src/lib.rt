@@ -6,6 +6,3 @@ mod val;
 
 pub use loc::Loc;
 pub use val::Val;
-
-#[cfg(test)]
-mod tests;

@@ -58,5 +58,5 @@ pub record TellsFiles (request : Request) (told : List ℕ → Option (List ℕ)
   pub of_netlist : TellsNetlist request.netlist told netlist
 
 -- such an answer was written whole, or there was too little memory
-abbrev pub Answers : (Answer → Type 0) → (before after : Option (List ℕ)) → Status → Type 0
-Answers Due before after status = Whole Due before after status ⊎ Nothing before after status
+abbrev pub WritesWhole : (Answer → Type 0) → (before after : Option (List ℕ)) → Status → Type 0
+WritesWhole Due before after status = Whole Due before after status ⊎ Nothing before after status

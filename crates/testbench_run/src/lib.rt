@@ -7,11 +7,9 @@ mod files;
 mod linked;
 mod reading;
 mod refusals;
-mod report;
+mod report_text;
 mod top;
 
+pub use report_text::report;
 pub use run_rules::Status;
 pub use top::top_plain;
-
-#[cfg(test)]
-mod tests;

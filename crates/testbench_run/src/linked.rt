@@ -14,7 +14,7 @@ ghost use Rattle.testbench_run.specs.Running.{IsRunnable, AnswersLinking};
 
 use crate::answer::Answer;
 use crate::refusals::{accepted, link_refusal};
-use crate::report::report;
+use crate::report_text::report;
 use blif_device::Device;
 use blif_read::Netlist;
 use four_state::{NoMemory, Text};

@@ -3,7 +3,7 @@ ghost use Rattle.vera_io.specs.Faults.{Rose};
 ghost use Rattle.run_words.specs.Words.{Request, request_of};
 ghost use Rattle.testbench_run.specs.Answers.{IsAnswer, ReadBytes};
 ghost use Rattle.testbench_run.specs.Refusals.{words_answer};
-ghost use Rattle.testbench_run.specs.Top.{Tells, Answers, ReadingRose, FileRose, TellsFiles};
+ghost use Rattle.testbench_run.specs.Top.{Tells, WritesWhole, ReadingRose, FileRose, TellsFiles};
 
 use crate::answering::answer_to;
 use run_rules::Status;
@@ -39,11 +39,11 @@ pub fn top_plain<S: Shelf, K: Sink>(
 
     // Where no count rose, the answer is written whole, or memory was wanting.
     ensures other_words { request_of (map (λ word. word.now) words.now) ≡ None → ¬ (Rose (K.faults out.old) (K.faults out.new))
-        → Answers (λ answer. answer ≡ words_answer) (K.bytes_taken out.old) (K.bytes_taken out.new) result }
+        → WritesWhole (λ answer. answer ≡ words_answer) (K.bytes_taken out.old) (K.bytes_taken out.new) result }
     ensures complete { (request : Request) (source netlist : List ℕ) → request_of (map (λ word. word.now) words.now) ≡ Some request
         → TellsFiles request (S.bytes_of shelf.old) source netlist → ¬ (FileRose request (S.faults_of shelf.old) (S.faults_of shelf.new))
         → ¬ (Rose (K.faults out.old) (K.faults out.new))
-        → Answers (IsAnswer (Some request) (ReadBytes source) (ReadBytes netlist)) (K.bytes_taken out.old) (K.bytes_taken out.new) result }
+        → WritesWhole (IsAnswer (Some request) (ReadBytes source) (ReadBytes netlist)) (K.bytes_taken out.old) (K.bytes_taken out.new) result }
 {
     match answer_to(alloc, words, shelf) {
         Err(_) => Status::NoMemory,

@@ -8,7 +8,7 @@ use Rattle.vera_ast.specs.declared.tree.interfaces.Direction.TheVariants.{Output
 use Rattle.vera_ast.specs.declared.tree.interfaces.Signal.{Signal}
 use Rattle.vera_ast.specs.declared.tree.items.Item.{Item}
 use Rattle.vera_ast.specs.declared.tree.items.Item.TheVariants as item
-use Rattle.typing_rules.specs.Checked.{Checked, ◌>>=◌, keeps, refuse}
+use Rattle.typing_rules.specs.Checked.{Checked, keeps, refuse}
 use Rattle.typing_rules.specs.Declarations.{Part, walk_parts, name_parts, signal_parts, is_second_output, item_parts, parts_behind, declarations}
 use Rattle.typing_rules.specs.FileNames.{file_names, signals_of, signals_in, output_name, output_names}
 use Rattle.typing_rules.specs.Scopes.{Name, Scopes, is_among}
@@ -23,11 +23,6 @@ Passed (Err r) = ⊥
 abbrev pub AllPass : List Part → Type 0
 AllPass [] = Unit {0}
 AllPass (p ∷ parts) = Passed p.check × AllPass parts
-
-passed_first : {A B : Type 0} (m : Checked A) (f : A → Checked B) → Passed (m >>= f) → Passed m
-unfolding ◌>>=◌
-passed_first (Ok a) f h = tt
-passed_first (Err r) f h = h
 
 passed_is : {A : Type 0} (m : Checked A) (a : A) → m ≡ Ok a → Passed m
 passed_is (Ok b) a e = tt

@@ -14,7 +14,7 @@ use Rattle.vera_ast.specs.declared.typed.stmt.TypedStmt.{TypedStmt}
 use Rattle.typing_rules.specs.Calls.{is_function}
 use Rattle.typing_rules.specs.Checked.{Checked, ◌>>=◌, ◌>>◌, refuse, keeps, perhaps, wrong_type, not_here, wrong_signal}
 use Rattle.typing_rules.specs.Expressions.{walk, expr}
-use Rattle.typing_rules.specs.Heads.{number, value_of, is_output}
+use Rattle.typing_rules.specs.Heads.{number, value_of, is_output, expr_or_missing}
 use Rattle.typing_rules.specs.Posts.{name}
 use Rattle.typing_rules.specs.Types.{is_vector}
 use Rattle.typing_rules.specs.declared.context.Context.{Context}
@@ -29,15 +29,11 @@ abbrev pub is_wrong_delay : Option Typed → Bool
 is_wrong_delay None = false
 is_wrong_delay (Some v) = not (is_vector v.of)
 
-abbrev pub delay_expr : Option Typed → Option TypedExpr
-delay_expr None = None
-delay_expr (Some v) = Some v.expr
-
 -- a drive of this signal
 unfoldable pub drive : Context → ℕ → Option Typed → TypedSignalName → Direction → DriveOperator → Typed → Checked TypedStmt
 drive c line delay s d operator v = do
   keeps line ((wrong_type, is_wrong_delay delay || not (is_vector v.of)) ∷ (not_here, is_function c.body) ∷ (wrong_signal, not (is_output d)) ∷ [])
-  Ok (stmt.Drive (record { line = line; delay = delay_expr delay; target = s; operator = operator; value = v.expr }))
+  Ok (stmt.Drive (record { line = line; delay = expr_or_missing delay; target = s; operator = operator; value = v.expr }))
 
 -- ---- delay = number | name | "(" expr ")"
 

@@ -1,5 +1,5 @@
 -- What a `post` stands for, read as a value, taken as a place, or taken as an argument.
-use Rattle.std.specs.Prelude.{ℕ, ◌==◌, ◌&&◌, Bool, true, false, if◌then◌else◌, List, [], ◌∷◌, length, Ok, unwrap_or}
+use Rattle.std.specs.Prelude.{ℕ, ◌==◌, ◌&&◌, Bool, true, false, if◌then◌else◌, List, [], ◌∷◌, length, Option, Some, None, Ok, unwrap_or}
 use Rattle.four_state.specs.Numbers.{number_of}
 use Rattle.vera_ast.specs.Types.{one, one_bit}
 use Rattle.vera_ast.specs.declared.tree.expressions.Number.{Number}
@@ -79,6 +79,11 @@ signal_type s = t.Vector (vector.Bits s.width)
 abbrev pub is_output : Direction → Bool
 is_output Input = false
 is_output Output = true
+
+-- the expression of a value that may be missing
+abbrev pub expr_or_missing : Option Typed → Option TypedExpr
+expr_or_missing None = None
+expr_or_missing (Some v) = Some v.expr
 
 -- an event can't be assigned
 abbrev pub is_event : ValueType → Bool

@@ -17,7 +17,8 @@ use Rattle.vera_ast.specs.declared.typed.stmt.TypedWindow.{TypedWindow}
 use Rattle.typing_rules.specs.Calls.{is_function}
 use Rattle.typing_rules.specs.Checked.{Checked, ◌>>=◌, ◌>>◌, refuse, keeps, known, each, perhaps, unknown_name, wrong_type, not_here, wrong_signal}
 use Rattle.typing_rules.specs.Expressions.{walk, expr}
-use Rattle.typing_rules.specs.Heads.{is_output}
+use Rattle.typing_rules.specs.Heads.{is_output, expr_or_missing}
+use Rattle.typing_rules.specs.Interfaces.{is_clock_kind}
 use Rattle.typing_rules.specs.Scopes.{Name, meaning_of}
 use Rattle.typing_rules.specs.Types.{is_vector}
 use Rattle.typing_rules.specs.declared.context.Context.{Context}
@@ -33,10 +34,6 @@ use Rattle.typing_rules.specs.Drives.{delay}
 
 -- ---- edge = "@" "(" "posedge" ( "CLOCK" | name "." name ) ")"
 
-abbrev pub is_clock : TypedSignalKind → Bool
-is_clock kind.Clock = true
-is_clock _ = false
-
 abbrev pub signal_in : Context → ℕ → Meaning → Name → Checked KnownSignal
 signal_in c line (means.Interface n) word = known unknown_name line (signal_of c n word)
 signal_in c line _ word = refuse wrong_type line
@@ -46,7 +43,7 @@ is_wrong_edge c line clock.Clock = Ok false
 is_wrong_edge c line (clock.Signal of word) = do
   meaning ← known unknown_name line (meaning_of c.scopes of)
   signal ← signal_in c line meaning word
-  Ok (not (is_clock signal.kind))
+  Ok (not (is_clock_kind signal.kind))
 
 unfoldable pub edge_stmt : Context → Edge → Checked TypedStmt
 edge_stmt c e = do
@@ -59,10 +56,6 @@ edge_stmt c e = do
 abbrev pub is_vector_or_missing : Option Typed → Bool
 is_vector_or_missing None = true
 is_vector_or_missing (Some v) = is_vector v.of
-
-abbrev pub expr_or_missing : Option Typed → Option TypedExpr
-expr_or_missing None = None
-expr_or_missing (Some v) = Some v.expr
 
 -- a window, and whether its delays are vectors, which is a rule of its statement
 abbrev pub Timed : Type 0

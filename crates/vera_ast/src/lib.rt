@@ -155,6 +155,3 @@ pub use typed::types::ValueType;
 pub use typed::types::VariableType;
 pub use typed::types::VectorType;
 pub use typed::types::Width;
-
-#[cfg(test)]
-mod tests;

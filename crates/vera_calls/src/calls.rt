@@ -27,7 +27,8 @@ use vera_ast::{
     BuiltInFunction, FormatPart, FrontError, TypedCall, TypedCallee, TypedExpr, TypedPlace,
     ValueType, VectorType, WaitingCall,
 };
-use vera_names::codes::{NOT_ASSIGNABLE, NOT_HERE, WRONG_COUNT, WRONG_TYPE, keeps, refused};
+use vera_names::codes::{NOT_ASSIGNABLE, NOT_HERE, WRONG_COUNT, WRONG_TYPE, refused};
+use vera_names::rules::{answered, keeps};
 use vera_values::arguments::{is_settable, suits, type_of};
 use vera_values::sight::Sight;
 
@@ -148,7 +149,7 @@ fn keeps_built_in(
     let is_wrong_count = not_both(counts(call, mode, count), printed.count);
     let is_settable = all_settable(&Wanted::BuiltIn(call), arguments);
     let is_refused = is_refused_here(body, stand, outcome);
-    keeps(
+    answered(keeps(
         line,
         &[
             (WRONG_TYPE, is_wrong_type),
@@ -156,7 +157,7 @@ fn keeps_built_in(
             (NOT_ASSIGNABLE, !is_settable),
             (NOT_HERE, is_refused),
         ],
-    )
+    ))
 }
 
 /// The one there is.
@@ -311,7 +312,7 @@ fn keeps_user(
     let suit = all_suit(sight.outline().classes(), parameters, arguments);
     let is_task = is_task(routine);
     let is_settable = all_settable(&Wanted::User(parameters), arguments);
-    keeps(
+    answered(keeps(
         line,
         &[
             (WRONG_TYPE, is_wrong_use(suit, is_task, stand)),
@@ -319,7 +320,7 @@ fn keeps_user(
             (NOT_ASSIGNABLE, !is_settable),
             (NOT_HERE, both(is_function(sight.body()), is_task)),
         ],
-    )
+    ))
 }
 
 /// The number of a task or function.

@@ -1,3 +1,2 @@
-mod StepsOpened
 mod WalkSteps
 mod WalkViews

@@ -98,7 +98,7 @@ fn member_named(sight: &Sight<'_>, line: u32, head: Head, word: &[u8]) -> Result
 }
 
 /// The ends of a range.
-#[tactic(auto, unfolding(crate::proofs::StepsOpened::steps, crate::specs::WalkLists::range_form))]
+#[tactic(auto, unfolding(vera_names::proofs::StepsOpened::steps, crate::specs::WalkLists::range_form))]
 fn range(
     alloc: Global,
     sight: &Sight<'_>,
@@ -113,7 +113,7 @@ fn range(
 }
 
 /// Some bits of what stands before them.
-#[tactic(auto, unfolding(crate::proofs::StepsOpened::steps, crate::specs::WalkLists::bits_form))]
+#[tactic(auto, unfolding(vera_names::proofs::StepsOpened::steps, crate::specs::WalkLists::bits_form))]
 fn bits_between(
     alloc: Global,
     sight: &Sight<'_>,
@@ -135,7 +135,7 @@ fn bits_between(
 }
 
 /// The value of an expression that is read where it stands.
-#[tactic(auto, unfolding(crate::proofs::StepsOpened::steps, typing_rules::specs::Expressions::expr, typing_rules::specs::Expressions::read_as))]
+#[tactic(auto, unfolding(vera_names::proofs::StepsOpened::steps, typing_rules::specs::Expressions::expr, typing_rules::specs::Expressions::read_as))]
 #[cycle(walk)]
 pub fn expr(alloc: Global, sight: &Sight<'_>, expr: &Expr) -> Result<Typed, FrontError>
     ensures { Answers (spec.expr sight.now expr.now) result }
@@ -145,7 +145,7 @@ pub fn expr(alloc: Global, sight: &Sight<'_>, expr: &Expr) -> Result<Typed, Fron
 }
 
 /// What an expression stands for where it stands.
-#[tactic(auto, using(crate::proofs::WalkViews::conditional_walked, crate::proofs::WalkViews::chain_walked, crate::proofs::WalkViews::unary_walked, crate::proofs::WalkViews::post_walked), unfolding(crate::proofs::StepsOpened::steps))]
+#[tactic(auto, using(crate::proofs::WalkViews::conditional_walked, crate::proofs::WalkViews::chain_walked, crate::proofs::WalkViews::unary_walked, crate::proofs::WalkViews::post_walked), unfolding(vera_names::proofs::StepsOpened::steps))]
 #[cycle(walk)]
 pub fn walk(alloc: Global, sight: &Sight<'_>, stand: Stand, tree: &Expr) -> Result<Head, FrontError>
     ensures { Answers (spec.walk sight.now stand tree.now) result }
@@ -161,7 +161,7 @@ pub fn walk(alloc: Global, sight: &Sight<'_>, stand: Stand, tree: &Expr) -> Resu
     }
 }
 
-#[tactic(auto, unfolding(crate::proofs::StepsOpened::steps, crate::specs::WalkLists::conditional_form))]
+#[tactic(auto, unfolding(vera_names::proofs::StepsOpened::steps, crate::specs::WalkLists::conditional_form))]
 #[cycle(walk)]
 fn walk_conditional(
     alloc: Global,
@@ -183,7 +183,7 @@ fn walk_conditional(
 }
 
 /// Both sides of a condition.
-#[tactic(auto, unfolding(crate::proofs::StepsOpened::steps, crate::specs::WalkLists::choices_form))]
+#[tactic(auto, unfolding(vera_names::proofs::StepsOpened::steps, crate::specs::WalkLists::choices_form))]
 #[cycle(walk)]
 fn walk_choices(
     alloc: Global,
@@ -203,7 +203,7 @@ fn walk_choices(
 }
 
 /// A chain, from its first operand on.
-#[tactic(auto, unfolding(crate::proofs::StepsOpened::steps, crate::specs::WalkLists::chain_form))]
+#[tactic(auto, unfolding(vera_names::proofs::StepsOpened::steps, crate::specs::WalkLists::chain_form))]
 #[cycle(walk)]
 fn walk_chain(
     alloc: Global,
@@ -223,7 +223,7 @@ fn walk_chain(
     }
 }
 
-#[tactic(auto, unfolding(crate::proofs::StepsOpened::steps, crate::specs::WalkLists::unary_form))]
+#[tactic(auto, unfolding(vera_names::proofs::StepsOpened::steps, crate::specs::WalkLists::unary_form))]
 #[cycle(walk)]
 fn walk_unary(alloc: Global, sight: &Sight<'_>, part: &Unary) -> Result<Head, FrontError>
     ensures { Answers (lists.unary_form sight.now part.now) result }
@@ -233,7 +233,7 @@ fn walk_unary(alloc: Global, sight: &Sight<'_>, part: &Unary) -> Result<Head, Fr
 }
 
 /// What a `post` stands for where it stands.
-#[tactic(auto, using(crate::proofs::WalkViews::post_walked), unfolding(crate::proofs::StepsOpened::steps, crate::specs::WalkLists::post_form))]
+#[tactic(auto, using(crate::proofs::WalkViews::post_walked), unfolding(vera_names::proofs::StepsOpened::steps, crate::specs::WalkLists::post_form))]
 #[cycle(walk)]
 pub fn walk_post(
     alloc: Global,
@@ -280,7 +280,7 @@ fn walk_values(alloc: Global, sight: &Sight<'_>, exprs: &[Expr]) -> Result<Vec<T
 }
 
 /// What the first part of a `post` stands for, by whether arguments follow it.
-#[tactic(auto, using(crate::proofs::WalkViews::number_walked, crate::proofs::WalkViews::str_walked, crate::proofs::WalkViews::name_walked, crate::proofs::WalkViews::null_walked, crate::proofs::WalkViews::this_walked, crate::proofs::WalkViews::super_walked, crate::proofs::WalkViews::new_walked, crate::proofs::WalkViews::parentheses_walked, crate::proofs::WalkViews::concatenation_walked, crate::proofs::WalkViews::replication_walked), unfolding(crate::proofs::StepsOpened::steps))]
+#[tactic(auto, using(crate::proofs::WalkViews::number_walked, crate::proofs::WalkViews::str_walked, crate::proofs::WalkViews::name_walked, crate::proofs::WalkViews::null_walked, crate::proofs::WalkViews::this_walked, crate::proofs::WalkViews::super_walked, crate::proofs::WalkViews::new_walked, crate::proofs::WalkViews::parentheses_walked, crate::proofs::WalkViews::concatenation_walked, crate::proofs::WalkViews::replication_walked), unfolding(vera_names::proofs::StepsOpened::steps))]
 #[cycle(walk)]
 fn walk_form(
     alloc: Global,
@@ -312,7 +312,7 @@ fn walk_form(
     }
 }
 
-#[tactic(auto, unfolding(crate::proofs::StepsOpened::steps, crate::specs::WalkLists::concatenation_form))]
+#[tactic(auto, unfolding(vera_names::proofs::StepsOpened::steps, crate::specs::WalkLists::concatenation_form))]
 #[cycle(walk)]
 fn walk_concatenation(
     alloc: Global,
@@ -327,7 +327,7 @@ fn walk_concatenation(
 }
 
 /// A replication whose count is known.
-#[tactic(auto, unfolding(crate::proofs::StepsOpened::steps, crate::specs::WalkLists::replication_form))]
+#[tactic(auto, unfolding(vera_names::proofs::StepsOpened::steps, crate::specs::WalkLists::replication_form))]
 #[cycle(walk)]
 fn walk_replication(
     alloc: Global,
@@ -363,7 +363,7 @@ fn walk_suffixes(
 }
 
 /// What a suffix makes of what stands before it.
-#[tactic(auto, using(crate::proofs::WalkViews::member_walked, crate::proofs::WalkViews::made_walked, crate::proofs::WalkViews::index_walked, crate::proofs::WalkViews::bits_walked, crate::proofs::WalkViews::call_walked), unfolding(crate::proofs::StepsOpened::steps))]
+#[tactic(auto, using(crate::proofs::WalkViews::member_walked, crate::proofs::WalkViews::made_walked, crate::proofs::WalkViews::index_walked, crate::proofs::WalkViews::bits_walked, crate::proofs::WalkViews::call_walked), unfolding(vera_names::proofs::StepsOpened::steps))]
 #[cycle(walk)]
 fn walk_suffix(
     alloc: Global,
@@ -391,7 +391,7 @@ fn walk_suffix(
     }
 }
 
-#[tactic(auto, unfolding(crate::proofs::StepsOpened::steps, crate::specs::WalkLists::index_form))]
+#[tactic(auto, unfolding(vera_names::proofs::StepsOpened::steps, crate::specs::WalkLists::index_form))]
 #[cycle(walk)]
 fn walk_index(
     alloc: Global,
@@ -412,7 +412,7 @@ fn walk_index(
     }
 }
 
-#[tactic(auto, unfolding(crate::proofs::StepsOpened::steps, crate::specs::WalkLists::call_form))]
+#[tactic(auto, unfolding(vera_names::proofs::StepsOpened::steps, crate::specs::WalkLists::call_form))]
 #[cycle(walk)]
 fn walk_call(
     alloc: Global,
@@ -455,7 +455,7 @@ fn walk_arguments(
 }
 
 /// An argument where this is wanted.
-#[tactic(auto, unfolding(crate::proofs::StepsOpened::steps))]
+#[tactic(auto, unfolding(vera_names::proofs::StepsOpened::steps))]
 #[cycle(walk)]
 fn walk_argument(
     alloc: Global,

@@ -21,6 +21,3 @@ pub use shelf::{Shelf, ShelfFailed};
 pub use sink::{Sink, SinkFailed};
 pub use stream_sink::StreamSink;
 pub use writing::write_all;
-
-#[cfg(test)]
-mod tests;

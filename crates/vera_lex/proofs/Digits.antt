@@ -5,7 +5,7 @@ use Rattle.std.specs.Char.{digit_value}
 use Rattle.std.specs.Str.Parse.{digits_value_after}
 use Rattle.std.proofs.lemmas.Bool.{ne_eqb, and_parts, ltb-true, ltb-false, lt-ltb, le-ltb}
 use Rattle.std.proofs.lemmas.Bool.Decides.{nat_tests}
-use Rattle.std.proofs.Math.Seq.{drop-cons, drop-length}
+use Rattle.std.proofs.Math.Seq.{drop-cons}
 use Rattle.four_state.specs.Literals.{plain_digits, is_only, literal_of}
 use Rattle.vera_lex.specs.Bytes.{all, run, in_decimal, is_digit}
 use Rattle.vera_lex.specs.Literals.{bits_of_digit, bits_of_digits, are_digits, are_right, is_x_or_z}
@@ -40,9 +40,6 @@ bits_from (suc n) places ds = suc n + places * length ds
 
 -- ---- bits
 
-pub bits_begin : (places : ℕ) (ds : List ℕ) → bits_from 0 places ds ≡ bits_of_digits places ds
-bits_begin places ds = refl
-
 one_more : (places c bits : ℕ) (rest : List ℕ) → bits_from (bits + (if bits == 0 then bits_of_digit places c else places)) places rest ≡ bits_from bits places (c ∷ rest)
 one_more places c zero rest =
     let none : 0 + bits_of_digit places c ≡ bits_of_digit places c = omega arith in
@@ -62,15 +59,6 @@ bits_more ds place digit bits added places r h e keep a read =
     let taken = plain_take ds place digit h e keep in
     let before : bits_from bits places (digit ∷ plain_digits (drop (place + 1) ds)) ≡ r = rw taken at read in
     rw a (one_more places digit bits (plain_digits (drop (place + 1) ds)) ∙ before)
-
-pub bits_end : (ds : List ℕ) (place bits places r : ℕ) → place ≡ length ds → bits_from bits places (plain_digits (drop place ds)) ≡ r → bits ≡ r
-bits_end ds place bits places r e read =
-    let none : bits_from bits places [] ≡ r = rw (e, drop-length ds) at read in
-    sym (last bits) ∙ none
-  where
-    last : (n : ℕ) → bits_from n places [] ≡ n
-    last zero = refl
-    last (suc n) = omega arith
 
 -- ---- decimal numbers
 

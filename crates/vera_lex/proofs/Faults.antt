@@ -24,14 +24,6 @@ pub none_of : fault_of false false false false false false ≡ None
 unfolding fault_of
 none_of = refl
 
-pub wide_of : fault_of false false false false false true ≡ Some 3
-unfolding fault_of
-wide_of = refl
-
-pub digits_of : fault_of false false true false false false ≡ Some 1
-unfolding fault_of
-digits_of = refl
-
 pub off_and : (a b : Bool) → a ≡ false → (a && b) ≡ false
 off_and a b e = rw e refl
 

@@ -10,7 +10,7 @@ use Rattle.vera_lex.specs.Bytes.{is_blank, is_space, is_digit, opens_word, in_wo
 use Rattle.vera_lex.specs.Forms.{Form, IsPiece}
 use Rattle.vera_lex.specs.Refusals.{fault}
 use Rattle.vera_lex.specs.Directives as dir
-use Rattle.vera_lex.specs.Directives.{Directive, include, define, gap as gap_of, header, front_word, include_at, define_at, directive_of, directive_behind, opens_directive}
+use Rattle.vera_lex.specs.Directives.{Directive, include, define, gap as gap_of, header, front_word, include_at, define_at, directive_behind, opens_directive}
 use Rattle.vera_lex.specs.Tokens.{Piece, gap, directive, piece_at, directive_piece, StandsUnless, Stands}
 use Rattle.vera_lex.specs.Reading.{word_front, number_front, string_front, other_front, front}
 use Rattle.vera_lex.proofs.Digits.{bool_cases}

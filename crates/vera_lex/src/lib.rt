@@ -10,8 +10,6 @@ mod literals;
 mod piece;
 mod signs;
 mod strings;
-#[cfg(test)]
-mod tests;
 
 pub use laws::one_result;
 pub use lexer::lex;

@@ -39,6 +39,10 @@ pub answered_is : {A : Type 0} (m : Checked A) (r : Result A FrontError) → r �
 answered_is m (Ok a) e = answered_ok m a (sym e)
 answered_is m (Err x) e = answered_err m x (sym e)
 
+-- a refusal that the code makes
+pub refused_as : {A : Type 0} (m : Checked A) (e : FrontError) (r : Refusal) → e ≡ Refused r → m ≡ Err r → Answers m (Err e)
+refused_as m e r is h = subst (λ (x : FrontError). Answers m (Err x)) (sym is) h
+
 -- ---- one rule
 
 pub refused_by : {B : Type 0} (line code : ℕ) (b : Bool) (q : Checked B) → b ≡ true → (keeps line ((code, b) ∷ []) >> q) ≡ Err (record { code = code; line = line })
@@ -70,3 +74,24 @@ along {A = A} d e r is h = subst (λ (m : Checked A). Answers m r) (sym is) h
 
 pub go_on : {A B : Type 0} (m : Checked A) (a : A) (f : A → Checked B) (r : Result B FrontError) → m ≡ Ok a → Answers (f a) r → Answers (m >>= f) r
 go_on m a f r e h = along (m >>= f) (f a) r (ok_then m a f e) h
+
+-- ---- what follows a step
+
+-- what follows, written otherwise
+pub follow : {A B : Type 0} (p : Checked A) (f g : A → Checked B) → ((a : A) → f a ≡ g a) → (p >>= f) ≡ (p >>= g)
+unfolding ◌>>=◌
+follow (Ok a) f g same = same a
+follow (Err r) f g same = refl
+
+-- steps within steps
+pub within : {A B C : Type 0} (p : Checked A) (f : A → Checked B) (g : B → Checked C) → (p >>= f >>= g) ≡ (p >>= (λ a. f a >>= g))
+unfolding ◌>>=◌
+within (Ok a) f g = refl
+within (Err r) f g = refl
+
+-- ---- a part of what a part gives
+
+pub part_refused : {A B C : Type 0} (p : Checked A) (f : A → B) (g : B → C) (r : Refusal) → Err r ≡ (p >>= (λ a. Ok (f a))) → (p >>= (λ a. Ok (g (f a)))) ≡ Err r
+unfolding ◌>>=◌
+part_refused (Ok a) f g r e = absurd cc
+part_refused (Err q) f g r e = cc

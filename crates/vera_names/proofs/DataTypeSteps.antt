@@ -12,8 +12,7 @@ use Rattle.vera_ast.specs.declared.typed.types.ValueType.{ValueType}
 use Rattle.vera_ast.specs.declared.typed.types.ValueType.TheVariants as t
 use Rattle.vera_ast.specs.declared.typed.types.VectorType.TheVariants as vector
 use Rattle.vera_ast.specs.declared.typed.types.Width.{Width}
-use Rattle.vera_names.proofs.Answering.{ok_then, passed_on, answered_is, refused_by, passed_by, known_some, known_none}
-use Rattle.vera_names.proofs.Items.{refused_as}
+use Rattle.vera_names.proofs.Answering.{ok_then, passed_on, answered_is, refused_by, passed_by, known_some, known_none, refused_as}
 use Rattle.typing_rules.specs.Answers.{answered, Answers}
 use Rattle.typing_rules.specs.Checked.{Checked, ◌>>=◌, ◌>>◌, keeps, known, refuse}
 use Rattle.typing_rules.specs.Constants.{constant}

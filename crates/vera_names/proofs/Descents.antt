@@ -1,5 +1,5 @@
 -- Descent, one step up at a time.
-use Rattle.std.proofs.Common.{◌≡◌, ℕ, zero, suc, Bool, true, false, List, Option, Some, None, refl, sym, ap, ◌+◌, ◌-◌, ◌<◌, ◌∙◌, arith}
+use Rattle.std.proofs.Common.{◌≡◌, ℕ, suc, Bool, false, List, Option, Some, refl, sym, ap, ◌+◌, ◌-◌, ◌<◌, ◌∙◌, arith}
 use Rattle.std.specs.Prelude.{◌==◌}
 use Rattle.std.proofs.lemmas.Bool.Decides.{nat_tests}
 use Rattle.typing_rules.specs.Types.{is_below, parent_of}
@@ -7,15 +7,8 @@ use Rattle.typing_rules.specs.Types.{is_below, parent_of}
 not_same : (a b : ℕ) → (a ≡ b → ⊥) → (a == b) ≡ false
 not_same a b ne = grind (arith, nat_tests)
 
-pub same_class : (n : ℕ) (parents : List (Option ℕ)) (class ancestor : ℕ) → (class == ancestor) ≡ true → is_below n parents class ancestor ≡ true
-same_class zero parents class ancestor e = e
-same_class (suc n) parents class ancestor e = rw e refl
-
 pub to_parent : (n : ℕ) (parents : List (Option ℕ)) (class parent ancestor : ℕ) → (class == ancestor) ≡ false → parent_of parents class ≡ Some parent → is_below (suc n) parents class ancestor ≡ is_below n parents parent ancestor
 to_parent n parents class parent ancestor e s = rw (e, s) refl
-
-pub no_parent : (n : ℕ) (parents : List (Option ℕ)) (class ancestor : ℕ) → (class == ancestor) ≡ false → parent_of parents class ≡ None → is_below (suc n) parents class ancestor ≡ false
-no_parent n parents class ancestor e s = rw (e, s) refl
 
 pub way_up : (end step : ℕ) (parents : List (Option ℕ)) (class parent ancestor : ℕ) (whole : Bool) → step < end → (class ≡ ancestor → ⊥) → parent_of parents class ≡ Some parent
     → is_below (end - step) parents class ancestor ≡ whole → is_below (end - (step + 1)) parents parent ancestor ≡ whole

@@ -1,23 +1,12 @@
 pub mod Answering
-mod BlockViews
-mod BlockWalks
-mod DataTypeSteps
+pub mod DataTypeSteps
 mod Descents
-mod Families
-mod FileSteps
-mod Going
-mod InterfaceSteps
-mod ItemParts
-mod ItemWalks
-mod Items
-mod NameLines
-mod NameSets
+pub mod Items
+pub mod NameSets
 mod NameViews
 mod NumberViews
-mod PartSteps
+mod Ones
 mod ScopeMaps
-mod Sights
 mod SignalMaps
-mod VariableSteps
-mod WalkParts
+pub mod StepsOpened
 mod Widths

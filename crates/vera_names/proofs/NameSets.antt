@@ -10,7 +10,7 @@ use Rattle.vera_names.proofs.Items.{items_from}
 use Rattle.typing_rules.specs.DataTypes.{names_in}
 use Rattle.vera_names.specs.Named.{declared_as}
 use Rattle.typing_rules.specs.Scopes.{Name, Scope, is_among, meaning_in, later}
-use Rattle.vera_names.specs.Walks.{SameNames, names_behind}
+use Rattle.vera_names.specs.NameSets.{SameNames, names_behind}
 use Rattle.typing_rules.specs.declared.names.Declared.{Declared}
 use Rattle.typing_rules.specs.declared.names.Meaning.{Meaning}
 use Rattle.typing_rules.specs.declared.names.Meaning.TheVariants.{Later}

@@ -10,9 +10,6 @@ use Rattle.typing_rules.specs.declared.names.Declared.{Declared}
 use Rattle.typing_rules.specs.declared.names.Meaning.{Meaning}
 use Rattle.vera_names.specs.declared.scope.Named.{Named}
 
-same_itself : (w : Name) → bytes_eq w w ≡ true
-same_itself w = (bytes_eq-Decides w w).1 refl
-
 -- ---- places
 
 behind_first : (b : Bool) (o r : Option ℕ) → cond b (Some 0) (option_map suc (option_or o r)) ≡ option_or (cond b (Some 0) (option_map suc o)) (option_map suc r)

@@ -1,6 +1,6 @@
-pub mod Walks
-pub mod Files
-pub mod Tables
+pub mod Lists
 pub mod NameLists
-pub mod NumberLists
+pub mod NameSets
 pub mod Named
+pub mod NumberLists
+pub mod Tables

@@ -2,8 +2,6 @@
 
 ghost use Rattle.std.specs.Prelude.{◌≡◌};
 ghost use Rattle.vera_ast.specs.declared.refusal.FrontError.TheVariants.{Refused};
-ghost use Rattle.typing_rules.specs.Answers.{answered};
-ghost use Rattle.typing_rules.specs.Checked as spec;
 
 use vera_ast::{FrontError, Refusal};
 
@@ -39,17 +37,4 @@ pub fn refused(code: u8, line: u32) -> FrontError
     ensures { result ≡ Refused (record { code = code; line = line }) }
 {
     FrontError::Refused(Refusal { code, line })
-}
-
-/// The rules of the part that begins on a line, each with whether it is broken there: the first broken one counts.
-#[tactic(auto, unfolding(typing_rules::specs::Checked::keeps, typing_rules::specs::Checked::refuse))]
-pub fn keeps(line: u32, rules: &[(u8, bool)]) -> Result<(), FrontError>
-    ensures { result ≡ answered (spec.keeps line rules.now) }
-{
-    for rule in rules {
-        if rule.1 {
-            return Err(refused(rule.0, line));
-        }
-    }
-    Ok(())
 }

@@ -1,13 +1,14 @@
 //! The types that declarations name.
 
 ghost use Rattle.std.specs.Prelude.{◌≡◌, suc, Some as SomeOf};
-ghost use Rattle.typing_rules.specs.Answers.{answered, Answers};
+ghost use Rattle.typing_rules.specs.Answers.{Answers};
 ghost use Rattle.typing_rules.specs.DataTypes as spec;
 ghost use Rattle.typing_rules.specs.Types as types;
 
 use crate::codes::{PAST_LIMIT, UNKNOWN_NAME, WRONG_TYPE, refused};
 use crate::constants::constant;
 use crate::fitting::width_from;
+use crate::rules::answered;
 use crate::scope::Scopes;
 use std::alloc::Global;
 use typing_rules::names::Meaning;
@@ -80,22 +81,12 @@ fn type_named(line: u32, means: Meaning) -> Result<ValueType, Refusal>
     }
 }
 
-/// The answer of what asks for no memory.
-fn told(answer: Result<ValueType, Refusal>) -> Result<ValueType, FrontError>
-    ensures { result ≡ answered answer }
-{
-    match answer {
-        Ok(of) => Ok(of),
-        Err(refusal) => Err(FrontError::Refused(refusal)),
-    }
-}
-
 /// The type of a name in sight.
 fn named_type(scopes: &Scopes<'_>, line: u32, name: &[u8]) -> Result<ValueType, FrontError>
     ensures { Answers (spec.named_type scopes.now line name.now) result }
 {
     match scopes.meaning(name) {
-        Some(means) => told(type_named(line, means)),
+        Some(means) => answered(type_named(line, means)),
         None => Err(refused(UNKNOWN_NAME, line)),
     }
 }

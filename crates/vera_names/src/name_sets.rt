@@ -5,7 +5,7 @@ ghost use Rattle.std.specs.Prelude.{◌≡◌, ◌++◌, ◌∷◌, [], List as 
 ghost use Rattle.typing_rules.specs.DataTypes as types;
 ghost use Rattle.typing_rules.specs.Declarations as declarations;
 ghost use Rattle.typing_rules.specs.Scopes as spec;
-ghost use Rattle.vera_names.specs.Walks.{SameNames};
+ghost use Rattle.vera_names.specs.NameSets.{SameNames};
 
 use crate::scope::Scope;
 use four_state::NoMemory;

@@ -6,10 +6,10 @@ use Rattle.vera_ast.specs.declared.codes.TheConstants as code
 use Rattle.vera_ast.specs.declared.token.Token.{Token}
 use Rattle.vera_ast.specs.declared.tree.expressions.Expr.{Expr}
 use Rattle.vera_ast.specs.declared.tree.statements.Edge.{Edge}
-use Rattle.vera_parse.specs.Tokens.{kind_of}
-use Rattle.vera_parse.specs.Sets.{first_expr}
-use Rattle.vera_parse.specs.Lists as names
-use Rattle.vera_parse.specs.ListReading as lists
+use Rattle.parse_cursor.specs.Tokens.{kind_of}
+use Rattle.parse_exprs.specs.Sets.{first_expr}
+use Rattle.parse_cursor.specs.Lists as names
+use Rattle.parse_cursor.specs.ListReading as lists
 use Rattle.vera_parse.specs.Coverage as g
 use Rattle.vera_parse.specs.CoverageReading as r
 use Rattle.grammar_laws.proofs.Law.{Heights, Law}
@@ -18,9 +18,9 @@ use Rattle.grammar_laws.proofs.Bind.{bind}
 use Rattle.grammar_laws.proofs.Choice.{choose}
 use Rattle.grammar_laws.proofs.Many.{many}
 use Rattle.grammar_laws.proofs.Settle.{grow}
-use Rattle.vera_parse.proofs.ExpressionLaws.{clash_expr}
-use Rattle.vera_parse.proofs.TokenLaws as token
-use Rattle.vera_parse.proofs.ListLaws as list
+use Rattle.parse_exprs.proofs.ExpressionLaws.{clash_expr}
+use Rattle.parse_cursor.proofs.TokenLaws as token
+use Rattle.parse_cursor.proofs.ListLaws as list
 
 module _ {Tall : Heights} {limit : ℕ} (d : ℕ) (fits : (h : ℕ) → Tall.tall h → d ≤ limit) where
   state_word : Law kind_of Tall limit d false true (code.STATE ∷ code.BAD_STATE ∷ []) [] [] r.state_word (λ h. g.state_word d)

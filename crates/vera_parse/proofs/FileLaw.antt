@@ -1,16 +1,16 @@
 -- The law of a whole file, at each limit of depth.
 use Rattle.std.proofs.Common.{◌≡◌, ℕ, ◌+◌, ◌≤◌, true, [], arith}
 use Rattle.grammar_laws.proofs.Law.{Law}
-use Rattle.vera_parse.specs.Tokens.{kind_of}
-use Rattle.vera_parse.specs.Expressions as expressions
-use Rattle.vera_parse.specs.ExpressionReading as reading
+use Rattle.parse_cursor.specs.Tokens.{kind_of}
+use Rattle.parse_exprs.specs.Expressions as expressions
+use Rattle.parse_exprs.specs.ExpressionReading as reading
 use Rattle.vera_parse.specs.Grammar as g
 use Rattle.vera_parse.specs.Reading as r
 use Rattle.vera_parse.specs.ItemReading.{first_item}
-use Rattle.vera_parse.proofs.ExpressionLevels.{heights, expr_at}
-use Rattle.vera_parse.proofs.DeclarationLaws as declarations
-use Rattle.vera_parse.proofs.PartLaws as parts
-use Rattle.vera_parse.proofs.StatementLevels.{block_at}
+use Rattle.parse_exprs.proofs.ExpressionLevels.{heights, expr_at}
+use Rattle.parse_stmts.proofs.DeclarationLaws as declarations
+use Rattle.parse_stmts.proofs.PartLaws as parts
+use Rattle.parse_stmts.proofs.StatementLevels.{block_at}
 use Rattle.vera_parse.proofs.InterfaceLaws.{iface}
 use Rattle.vera_parse.proofs.CoverageLaws.{group}
 use Rattle.vera_parse.proofs.ItemLaws.{items}

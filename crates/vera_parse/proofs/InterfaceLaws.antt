@@ -5,7 +5,7 @@ use Rattle.grammar_laws.specs.Readers.{Parser}
 use Rattle.vera_ast.specs.declared.codes.TheConstants as code
 use Rattle.vera_ast.specs.declared.token.Token.{Token}
 use Rattle.vera_ast.specs.declared.tree.declarations.Range.{Range}
-use Rattle.vera_parse.specs.Tokens.{kind_of}
+use Rattle.parse_cursor.specs.Tokens.{kind_of}
 use Rattle.vera_parse.specs.Interfaces as g
 use Rattle.vera_parse.specs.InterfaceReading as r
 use Rattle.grammar_laws.proofs.Law.{Heights, Law}
@@ -13,8 +13,8 @@ use Rattle.grammar_laws.proofs.Leaf as leaf
 use Rattle.grammar_laws.proofs.Bind.{bind}
 use Rattle.grammar_laws.proofs.Choice.{choose}
 use Rattle.grammar_laws.proofs.Many.{many}
-use Rattle.vera_parse.proofs.TokenLaws as token
-use Rattle.vera_parse.proofs.ListLaws as list
+use Rattle.parse_cursor.proofs.TokenLaws as token
+use Rattle.parse_cursor.proofs.ListLaws as list
 
 module _ {Tall : Heights} {limit : ℕ} (d : ℕ) (fits : (h : ℕ) → Tall.tall h → d ≤ limit) where
   skew : Law kind_of Tall limit d false true (code.HASH ∷ []) [] [] r.skew (λ h. g.skew d)

@@ -4,17 +4,15 @@ use Rattle.grammar_laws.specs.Languages.{Lang}
 use Rattle.grammar_laws.specs.Readers.{Parser}
 use Rattle.vera_ast.specs.declared.codes.TheConstants as code
 use Rattle.vera_ast.specs.declared.token.Token.{Token}
-use Rattle.vera_ast.specs.declared.tree.classes.Member.TheVariants as member
 use Rattle.vera_ast.specs.declared.tree.coverage.CoverageGroup.{CoverageGroup}
 use Rattle.vera_ast.specs.declared.tree.declarations.DataType.{DataType}
 use Rattle.vera_ast.specs.declared.tree.declarations.Decl.{Decl}
 use Rattle.vera_ast.specs.declared.tree.interfaces.Interface.{Interface}
 use Rattle.vera_ast.specs.declared.tree.items.Parameter.{Parameter}
 use Rattle.vera_ast.specs.declared.tree.statements.Block.{Block}
-use Rattle.vera_parse.specs.Tokens.{kind_of}
-use Rattle.vera_parse.specs.Sets.{first_type, first_param}
-use Rattle.vera_parse.specs.Lists as names
-use Rattle.vera_parse.specs.ListReading as lists
+use Rattle.parse_cursor.specs.Tokens.{kind_of}
+use Rattle.parse_exprs.specs.Sets.{first_type, first_param}
+use Rattle.parse_cursor.specs.Lists as names
 use Rattle.vera_parse.specs.Items as g
 use Rattle.vera_parse.specs.ItemReading as r
 use Rattle.vera_parse.specs.ItemReading.{first_member, first_item}
@@ -24,8 +22,8 @@ use Rattle.grammar_laws.proofs.Bind.{bind}
 use Rattle.grammar_laws.proofs.Choice.{choose}
 use Rattle.grammar_laws.proofs.Many.{many}
 use Rattle.grammar_laws.proofs.Settle.{restate}
-use Rattle.vera_parse.proofs.TokenLaws as token
-use Rattle.vera_parse.proofs.ListLaws as list
+use Rattle.parse_cursor.proofs.TokenLaws as token
+use Rattle.parse_cursor.proofs.ListLaws as list
 use Rattle.vera_parse.proofs.Virtual as virtual
 
 module _ {Tall : Heights} {limit : ℕ} (d : ℕ) (fits : (h : ℕ) → Tall.tall h → d ≤ limit) where

@@ -12,10 +12,10 @@ use Rattle.vera_parse.specs.Answer.{IsFile}
 use Rattle.vera_parse.specs.Grammar as g
 use Rattle.vera_parse.specs.Reading as r
 use Rattle.vera_parse.specs.ItemReading.{first_item}
-use Rattle.vera_parse.specs.Tokens.{kind_of}
+use Rattle.parse_cursor.specs.Tokens.{kind_of}
 use Rattle.grammar_laws.proofs.Whole as whole
 use Rattle.grammar_laws.proofs.Reached as reached
-use Rattle.vera_parse.proofs.ExpressionLevels.{heights}
+use Rattle.parse_exprs.proofs.ExpressionLevels.{heights}
 use Rattle.vera_parse.proofs.FileLaw.{file_law, enough}
 
 pub file_ok : (limit : ℕ) (ts : List Token) (tree : Tree) (rest : List Token) → r.file limit ts ≡ Ok (tree, rest) → answers.Parses IsFile limit ts tree

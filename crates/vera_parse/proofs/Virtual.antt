@@ -10,8 +10,8 @@ use Rattle.vera_ast.specs.declared.tree.declarations.DataType.{DataType}
 use Rattle.vera_ast.specs.declared.tree.declarations.Decl.{Decl}
 use Rattle.vera_ast.specs.declared.tree.items.Parameter.{Parameter}
 use Rattle.vera_ast.specs.declared.tree.statements.Block.{Block}
-use Rattle.vera_parse.specs.Tokens as g
-use Rattle.vera_parse.specs.Lists.{flag}
+use Rattle.parse_cursor.specs.Tokens as g
+use Rattle.parse_cursor.specs.Lists.{flag}
 use Rattle.vera_parse.specs.Items.{task, func, task_member, func_member, class_member}
 
 module _ {A : Type 0} (c : ℕ) (f : Bool → Lang Token A) where

@@ -14,8 +14,8 @@ use Rattle.vera_ast.specs.declared.tree.coverage.GroupEvent.TheVariants as forms
 use Rattle.vera_ast.specs.declared.tree.coverage.Sample.{Sample}
 use Rattle.vera_ast.specs.declared.tree.expressions.Expr.{Expr}
 use Rattle.vera_ast.specs.declared.tree.statements.Edge.{Edge}
-use Rattle.vera_parse.specs.Tokens.{word, sign}
-use Rattle.vera_parse.specs.Lists.{title, some, after, listed}
+use Rattle.parse_cursor.specs.Tokens.{word, sign}
+use Rattle.parse_cursor.specs.Lists.{title, some, after, listed}
 
 -- "state" | "bad_state", with its line
 unfoldable pub state_word : Lang Token (ℕ × BinKind)

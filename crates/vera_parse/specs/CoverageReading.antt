@@ -14,8 +14,8 @@ use Rattle.vera_ast.specs.declared.tree.coverage.GroupEvent.TheVariants as forms
 use Rattle.vera_ast.specs.declared.tree.coverage.Sample.{Sample}
 use Rattle.vera_ast.specs.declared.tree.expressions.Expr.{Expr}
 use Rattle.vera_ast.specs.declared.tree.statements.Edge.{Edge}
-use Rattle.vera_parse.specs.TokenReading.{word, sign, either, maybe}
-use Rattle.vera_parse.specs.ListReading.{title, some, after, listed}
+use Rattle.parse_cursor.specs.TokenReading.{word, sign, either, maybe}
+use Rattle.parse_cursor.specs.ListReading.{title, some, after, listed}
 
 unfoldable pub state_word : Parser Token (ℕ × BinKind)
 state_word = sign ((code.STATE, State) ∷ (code.BAD_STATE, BadState) ∷ [])

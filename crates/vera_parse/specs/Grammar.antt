@@ -4,10 +4,10 @@ use Rattle.std.specs.Prelude.{ℕ}
 use Rattle.grammar_laws.specs.Languages.{Lang}
 use Rattle.vera_ast.specs.declared.token.Token.{Token}
 use Rattle.vera_ast.specs.declared.tree.items.Tree.{Tree}
-use Rattle.vera_parse.specs.Expressions.{expr}
-use Rattle.vera_parse.specs.Declarations.{range, data_type, decl, params}
-use Rattle.vera_parse.specs.Parts.{edge}
-use Rattle.vera_parse.specs.Statements.{block, stmt}
+use Rattle.parse_exprs.specs.Expressions.{expr}
+use Rattle.parse_stmts.specs.Declarations.{range, data_type, decl, params}
+use Rattle.parse_stmts.specs.Parts.{edge}
+use Rattle.parse_stmts.specs.Statements.{block, stmt}
 use Rattle.vera_parse.specs.Interfaces.{iface}
 use Rattle.vera_parse.specs.Coverage.{group}
 use Rattle.vera_parse.specs.Items.{items}

@@ -13,8 +13,8 @@ use Rattle.vera_ast.specs.declared.tree.interfaces.SignalKind.{SignalKind}
 use Rattle.vera_ast.specs.declared.tree.interfaces.SignalTime.{SignalTime}
 use Rattle.vera_ast.specs.declared.tree.interfaces.SignalTime.TheVariants.{PositiveHold, PositiveSample, NegativeHold, NegativeSample}
 use Rattle.vera_ast.specs.declared.tree.interfaces.Skew.{Skew}
-use Rattle.vera_parse.specs.TokenReading.{word, sign, number, either, many, maybe}
-use Rattle.vera_parse.specs.ListReading.{title, flag}
+use Rattle.parse_cursor.specs.TokenReading.{word, sign, number, either, many, maybe}
+use Rattle.parse_cursor.specs.ListReading.{title, flag}
 
 unfoldable pub skew : Parser Token Skew
 skew = do

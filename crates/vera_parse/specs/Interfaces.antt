@@ -13,8 +13,8 @@ use Rattle.vera_ast.specs.declared.tree.interfaces.SignalKind.{SignalKind}
 use Rattle.vera_ast.specs.declared.tree.interfaces.SignalTime.{SignalTime}
 use Rattle.vera_ast.specs.declared.tree.interfaces.SignalTime.TheVariants.{PositiveHold, PositiveSample, NegativeHold, NegativeSample}
 use Rattle.vera_ast.specs.declared.tree.interfaces.Skew.{Skew}
-use Rattle.vera_parse.specs.Tokens.{word, sign, number}
-use Rattle.vera_parse.specs.Lists.{title, flag}
+use Rattle.parse_cursor.specs.Tokens.{word, sign, number}
+use Rattle.parse_cursor.specs.Lists.{title, flag}
 
 -- "#" [ "-" ] number
 unfoldable pub skew : Lang Token Skew

@@ -21,9 +21,9 @@ use Rattle.vera_ast.specs.declared.tree.items.TaskName.{TaskName}
 use Rattle.vera_ast.specs.declared.tree.items.TaskName.TheVariants.{Named, New}
 use Rattle.vera_ast.specs.declared.tree.items.Tree.{Tree}
 use Rattle.vera_ast.specs.declared.tree.statements.Block.{Block}
-use Rattle.vera_parse.specs.TokenReading.{word, either, many, maybe}
-use Rattle.vera_parse.specs.ListReading.{title, after, listed}
-use Rattle.vera_parse.specs.Sets.{first_type, first_param}
+use Rattle.parse_cursor.specs.TokenReading.{word, either, many, maybe}
+use Rattle.parse_cursor.specs.ListReading.{title, after, listed}
+use Rattle.parse_exprs.specs.Sets.{first_type, first_param}
 
 unfoldable pub enumeration : Parser Token Enumeration
 enumeration = do

@@ -21,8 +21,8 @@ use Rattle.vera_ast.specs.declared.tree.items.TaskName.{TaskName}
 use Rattle.vera_ast.specs.declared.tree.items.TaskName.TheVariants.{Named, New}
 use Rattle.vera_ast.specs.declared.tree.items.Tree.{Tree}
 use Rattle.vera_ast.specs.declared.tree.statements.Block.{Block}
-use Rattle.vera_parse.specs.Tokens.{word}
-use Rattle.vera_parse.specs.Lists.{title, flag, after, listed}
+use Rattle.parse_cursor.specs.Tokens.{word}
+use Rattle.parse_cursor.specs.Lists.{title, flag, after, listed}
 
 -- enum = "enum" name "=" name { "," name } ";"
 unfoldable pub enumeration : Lang Token Enumeration

@@ -15,10 +15,10 @@ use Rattle.vera_ast.specs.declared.tree.items.TaskName.{TaskName}
 use Rattle.vera_ast.specs.declared.tree.declarations.DataType.{DataType}
 use Rattle.vera_ast.specs.declared.tree.items.Tree.{Tree}
 use Rattle.vera_ast.specs.declared.tree.statements.Block.{Block}
-use Rattle.vera_parse.specs.ExpressionReading.{expr}
-use Rattle.vera_parse.specs.DeclarationReading.{range, data_type, decl, params}
-use Rattle.vera_parse.specs.PartReading.{edge}
-use Rattle.vera_parse.specs.StatementReading as statements
+use Rattle.parse_exprs.specs.ExpressionReading.{expr}
+use Rattle.parse_stmts.specs.DeclarationReading.{range, data_type, decl, params}
+use Rattle.parse_stmts.specs.PartReading.{edge}
+use Rattle.parse_stmts.specs.StatementReading as statements
 use Rattle.vera_parse.specs.InterfaceReading as interfaces
 use Rattle.vera_parse.specs.CoverageReading as coverage
 use Rattle.vera_parse.specs.ItemReading as items

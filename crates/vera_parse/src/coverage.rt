@@ -2,19 +2,19 @@
 
 ghost use Rattle.grammar_laws.specs.Readers.{Reads};
 ghost use Rattle.vera_parse.specs.CoverageReading as reading;
-ghost use Rattle.vera_parse.specs.ExpressionReading.{expr};
-ghost use Rattle.vera_parse.specs.ListReading as lists;
-ghost use Rattle.vera_parse.specs.PartReading.{edge};
+ghost use Rattle.parse_exprs.specs.ExpressionReading.{expr};
+ghost use Rattle.parse_cursor.specs.ListReading as lists;
+ghost use Rattle.parse_stmts.specs.PartReading.{edge};
 ghost use Rattle.vera_ast.specs.declared.codes.TheConstants as code;
 
-use crate::cursor::Cursor;
-use crate::exprs::expr;
-use crate::parts::edge;
-use crate::repeats::{listed, some, title};
-use crate::trees::list_from;
-use crate::turns::maybe;
 use four_state::{List, Text};
 use grammar_laws::Fault;
+use parse_cursor::cursor::Cursor;
+use parse_cursor::repeats::{listed, some, title};
+use parse_cursor::trees::list_from;
+use parse_cursor::turns::maybe;
+use parse_exprs::exprs::expr;
+use parse_stmts::parts::edge;
 use std::alloc::Global;
 use vera_ast::codes::{
     ANY_MODE, ARROW, AT, BAD_STATE, BAD_TRANS, COLON, COMMA, COVERAGE_GROUP, DOT, EQUALS,
@@ -41,7 +41,7 @@ fn sync_event(alloc: Global, tokens: &mut Cursor<'_>) -> Result<GroupEvent, Faul
 }
 
 /// `":" expr`.
-#[tactic(auto, unfolding(crate::specs::ListReading::after, grammar_laws::specs::Readers::and_then))]
+#[tactic(auto, unfolding(parse_cursor::specs::ListReading::after, grammar_laws::specs::Readers::and_then))]
 fn last_value(alloc: Global, tokens: &mut Cursor<'_>, depth: usize) -> Result<Expr, Fault>
     ensures { Reads (lists.after code.COLON (expr depth) tokens.old.rest.now) result tokens.new.rest.now }
 {
@@ -142,7 +142,7 @@ fn bin(alloc: Global, tokens: &mut Cursor<'_>, depth: usize) -> Result<Bin, Faul
 }
 
 /// `"." name`.
-#[tactic(auto, unfolding(crate::specs::ListReading::after, grammar_laws::specs::Readers::and_then))]
+#[tactic(auto, unfolding(parse_cursor::specs::ListReading::after, grammar_laws::specs::Readers::and_then))]
 fn signal_name(alloc: Global, tokens: &mut Cursor<'_>) -> Result<Text, Fault>
     ensures { Reads (lists.after code.DOT lists.title tokens.old.rest.now) result tokens.new.rest.now }
 {

@@ -9,9 +9,9 @@ ghost use Rattle.vera_ast.specs.declared.tree.items.Tree.{Tree as TreeOf};
 ghost use Rattle.vera_parse.specs.Answer.{Parses, IsTreeOf, IsRefusal, line_at};
 ghost use Rattle.vera_parse.specs.Reading as reading;
 
-use crate::cursor::Cursor;
 use crate::items::items;
 use grammar_laws::{Fault, Why};
+use parse_cursor::cursor::Cursor;
 use std::alloc::Global;
 use vera_ast::{FrontError, Refusal, Token, Tree};
 

@@ -1,15 +1,15 @@
 //! Interfaces.
 
 ghost use Rattle.grammar_laws.specs.Readers.{Reads};
-ghost use Rattle.vera_parse.specs.DeclarationReading.{range};
-ghost use Rattle.vera_parse.specs.ExpressionReading.{expr};
+ghost use Rattle.parse_stmts.specs.DeclarationReading.{range};
+ghost use Rattle.parse_exprs.specs.ExpressionReading.{expr};
 ghost use Rattle.vera_parse.specs.InterfaceReading as reading;
 
-use crate::cursor::Cursor;
-use crate::decls::range;
-use crate::repeats::{flag, title};
-use crate::turns::{list, maybe};
 use grammar_laws::Fault;
+use parse_cursor::cursor::Cursor;
+use parse_cursor::repeats::{flag, title};
+use parse_cursor::turns::{list, maybe};
+use parse_stmts::decls::range;
 use std::alloc::Global;
 use vera_ast::codes::{
     CLOCK, HASH, INPUT, INTERFACE, LEFT_BRACE, LEFT_BRACKET, MINUS, NHOLD, NSAMPLE, OUTPUT, PHOLD,

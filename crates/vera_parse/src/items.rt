@@ -2,23 +2,23 @@
 
 ghost use Rattle.grammar_laws.specs.Readers.{Reads};
 ghost use Rattle.vera_ast.specs.declared.codes.TheConstants as code;
-ghost use Rattle.vera_parse.specs.DeclarationReading as declarations;
-ghost use Rattle.vera_parse.specs.ExpressionReading.{expr};
+ghost use Rattle.parse_stmts.specs.DeclarationReading as declarations;
+ghost use Rattle.parse_exprs.specs.ExpressionReading.{expr};
 ghost use Rattle.vera_parse.specs.ItemReading as reading;
-ghost use Rattle.vera_parse.specs.ListReading as lists;
+ghost use Rattle.parse_cursor.specs.ListReading as lists;
 ghost use Rattle.vera_parse.specs.Reading as whole;
-ghost use Rattle.vera_parse.specs.TokenReading.{maybe};
+ghost use Rattle.parse_cursor.specs.TokenReading.{maybe};
 ghost use Rattle.std.specs.Prelude.{[], ◌∷◌};
 
 use crate::coverage::group;
-use crate::cursor::Cursor;
-use crate::decls::{data_type, decl, params};
 use crate::interfaces::iface;
-use crate::repeats::{listed, title};
-use crate::stmts::block;
-use crate::turns::list;
 use four_state::{List, Text};
 use grammar_laws::Fault;
+use parse_cursor::cursor::Cursor;
+use parse_cursor::repeats::{listed, title};
+use parse_cursor::turns::list;
+use parse_stmts::decls::{data_type, decl, params};
+use parse_stmts::stmts::block;
 use std::alloc::Global;
 use vera_ast::codes::{
     BIT, CLASS, COMMA, COVERAGE_GROUP, ENUM, EQUALS, EVENT, EXTENDS, FUNCTION, INTEGER, INTERFACE,
@@ -218,7 +218,7 @@ fn class_member(alloc: Global, tokens: &mut Cursor<'_>, depth: usize) -> Result<
 }
 
 /// `"extends" name`.
-#[tactic(auto, unfolding(crate::specs::ListReading::after, grammar_laws::specs::Readers::and_then))]
+#[tactic(auto, unfolding(parse_cursor::specs::ListReading::after, grammar_laws::specs::Readers::and_then))]
 fn parent_name(alloc: Global, tokens: &mut Cursor<'_>) -> Result<Text, Fault>
     ensures { Reads (lists.after code.EXTENDS lists.title tokens.old.rest.now) result tokens.new.rest.now }
 {

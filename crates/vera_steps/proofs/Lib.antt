@@ -1,4 +1,2 @@
 pub mod SideSteps
-pub mod StepsOpened
-pub mod StmtSteps
 pub mod TargetSteps

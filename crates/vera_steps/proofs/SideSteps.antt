@@ -24,7 +24,7 @@ use Rattle.typing_rules.specs.declared.context.Context.{Context}
 use Rattle.typing_rules.specs.declared.head.Head.{Head}
 use Rattle.typing_rules.specs.declared.head.Head.TheVariants as h
 use Rattle.typing_rules.specs.declared.head.Stand.TheVariants as stand
-use Rattle.vera_steps.proofs.StmtSteps.{stops, goes, alike, follow, within}
+use Rattle.vera_names.proofs.Answering.{passed_on, go_on, along, follow, within}
 use Rattle.vera_steps.specs.SideLists.{left_of, passes, side_of, walk_side, placed, assign_right, assign_value, assign_signal, assign_to, added, add_to, count_at, change_at}
 use Rattle.vera_steps.specs.declared.sides.Side.{Side}
 
@@ -136,7 +136,7 @@ step_is c s =
     ∙ sym (within (walk c stand.Place (x.Postfix s.target)) (λ head. Ok (side_of head)) (λ side. change_at c s.line side s.change))
 
 pub step_stops : (c : Context) (s : Step) (e : FrontError) → Answers (walk_side c s.target) (Err e) → Answers (step c s) (Err e)
-step_stops c s e h = alike _ _ (Err e) (step_is c s) (stops _ _ e h)
+step_stops c s e h = along _ _ (Err e) (step_is c s) (passed_on _ _ e h)
 
 pub step_goes : (c : Context) (s : Step) (side : Side) (r : Result TypedStmt FrontError) → walk_side c s.target ≡ Ok side → Answers (change_at c s.line side s.change) r → Answers (step c s) r
-step_goes c s side r is h = alike _ _ r (step_is c s) (goes _ _ side r is h)
+step_goes c s side r is h = along _ _ r (step_is c s) (go_on _ side _ r is h)

@@ -17,7 +17,7 @@ use Rattle.typing_rules.specs.declared.head.Head.TheVariants as h
 use Rattle.typing_rules.specs.declared.head.Head.{Head}
 use Rattle.typing_rules.specs.declared.head.Stand.TheVariants as stand
 use Rattle.typing_rules.specs.declared.head.Typed.{Typed}
-use Rattle.vera_steps.proofs.StmtSteps.{stops, goes, alike, follow}
+use Rattle.vera_names.proofs.Answering.{passed_on, go_on, along, follow}
 use Rattle.vera_steps.specs.TargetLists.{target_of, walk_target, driven, expected}
 use Rattle.vera_steps.specs.declared.targets.Target.{Target}
 
@@ -61,17 +61,17 @@ unfolding drives.drive_stmt
 drive_stmt_is c d = follow (perhaps (drives.delay c) d.delay) _ _ (drive_behind c d)
 
 pub drive_delay_stops : (c : Context) (d : Drive) (e : FrontError) → Answers (perhaps (drives.delay c) d.delay) (Err e) → Answers (drives.drive_stmt c d) (Err e)
-drive_delay_stops c d e h = alike _ _ (Err e) (drive_stmt_is c d) (stops _ _ e h)
+drive_delay_stops c d e h = along _ _ (Err e) (drive_stmt_is c d) (passed_on _ _ e h)
 
 pub drive_target_stops : (c : Context) (d : Drive) (time : Option Typed) (e : FrontError) → perhaps (drives.delay c) d.delay ≡ Ok time → Answers (walk_target c d.signal) (Err e) → Answers (drives.drive_stmt c d) (Err e)
-drive_target_stops c d time e is h = alike _ _ (Err e) (drive_stmt_is c d) (goes _ _ time (Err e) is (stops _ _ e h))
+drive_target_stops c d time e is h = along _ _ (Err e) (drive_stmt_is c d) (go_on _ time _ (Err e) is (passed_on _ _ e h))
 
 pub drive_value_stops : (c : Context) (d : Drive) (time : Option Typed) (t : Option Target) (e : FrontError) → perhaps (drives.delay c) d.delay ≡ Ok time → walk_target c d.signal ≡ Ok t → Answers (expr c d.value) (Err e) → Answers (drives.drive_stmt c d) (Err e)
-drive_value_stops c d time t e is at h = alike _ _ (Err e) (drive_stmt_is c d) (goes _ _ time (Err e) is (goes _ _ t (Err e) at (stops _ _ e h)))
+drive_value_stops c d time t e is at h = along _ _ (Err e) (drive_stmt_is c d) (go_on _ time _ (Err e) is (go_on _ t _ (Err e) at (passed_on _ _ e h)))
 
 pub drive_goes : (c : Context) (d : Drive) (time : Option Typed) (t : Option Target) (v : Typed) (r : Result TypedStmt FrontError)
     → perhaps (drives.delay c) d.delay ≡ Ok time → walk_target c d.signal ≡ Ok t → expr c d.value ≡ Ok v → Answers (driven c d time t v) r → Answers (drives.drive_stmt c d) r
-drive_goes c d time t v r is at reads h = alike _ _ r (drive_stmt_is c d) (goes _ _ time r is (goes _ _ t r at (goes _ _ v r reads h)))
+drive_goes c d time t v r is at reads h = along _ _ r (drive_stmt_is c d) (go_on _ time _ r is (go_on _ t _ r at (go_on _ v _ r reads h)))
 
 -- ---- terms
 
@@ -100,10 +100,10 @@ unfolding waits.term walk_target
 term_is c t = by_target (walk c stand.Place (x.Postfix t.signal)) target_of (expr c t.value) (λ head v. waits.expected t head v) (λ s v. expected t s v) (expected_is t)
 
 pub term_target_stops : (c : Context) (t : Term) (e : FrontError) → Answers (walk_target c t.signal) (Err e) → Answers (waits.term c t) (Err e)
-term_target_stops c t e h = alike _ _ (Err e) (term_is c t) (stops _ _ e h)
+term_target_stops c t e h = along _ _ (Err e) (term_is c t) (passed_on _ _ e h)
 
 pub term_value_stops : (c : Context) (t : Term) (s : Option Target) (e : FrontError) → walk_target c t.signal ≡ Ok s → Answers (expr c t.value) (Err e) → Answers (waits.term c t) (Err e)
-term_value_stops c t s e at h = alike _ _ (Err e) (term_is c t) (goes _ _ s (Err e) at (stops _ _ e h))
+term_value_stops c t s e at h = along _ _ (Err e) (term_is c t) (go_on _ s _ (Err e) at (passed_on _ _ e h))
 
 pub term_goes : (c : Context) (t : Term) (s : Option Target) (v : Typed) (r : Result TypedTerm FrontError) → walk_target c t.signal ≡ Ok s → expr c t.value ≡ Ok v → Answers (expected t s v) r → Answers (waits.term c t) r
-term_goes c t s v r at reads h = alike _ _ r (term_is c t) (goes _ _ s r at (goes _ _ v r reads h))
+term_goes c t s v r at reads h = along _ _ r (term_is c t) (go_on _ s _ r at (go_on _ v _ r reads h))

@@ -1,5 +1,5 @@
 -- Simple statements: lists of results, and the parts of their definitions, as the code has them.
-use Rattle.std.specs.Prelude.{ℕ, not, List, [], ◌∷◌, ◌++◌, Ok, Err}
+use Rattle.std.specs.Prelude.{ℕ, not, [], ◌∷◌, Ok}
 use Rattle.vera_ast.specs.declared.tree.expressions.Expr.{Expr}
 use Rattle.vera_ast.specs.declared.typed.stmt.InitialValue.{InitialValue}
 use Rattle.vera_ast.specs.declared.typed.types.VariableType.{VariableType}
@@ -10,12 +10,6 @@ use Rattle.typing_rules.specs.declared.names.Meaning.{Meaning}
 use Rattle.typing_rules.specs.Scopes.{Name}
 use Rattle.typing_rules.specs.Waits.{signal_in}
 use Rattle.vera_ast.specs.declared.typed.interface.TypedSignalKind.{TypedSignalKind}
-
--- ---- results so far, and those of the parts that are left
-
-abbrev pub behind : {B : Type 0} → List B → Checked (List B) → Checked (List B)
-behind done (Ok rest) = Ok (done ++ rest)
-behind done (Err r) = Err r
 
 -- ---- assignments
 

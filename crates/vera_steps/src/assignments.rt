@@ -8,7 +8,6 @@ ghost use Rattle.vera_steps.specs.SideLists as sides;
 ghost use Rattle.vera_steps.specs.SimpleForms as lists;
 
 use crate::drives::drive;
-use crate::rules::{answered, keeps};
 use crate::sides::{Side, adds, left_counts, left_fits, right_fits, walk_side};
 use crate::targets::Target;
 use std::alloc::Global;
@@ -19,12 +18,13 @@ use vera_ast::{
 };
 use vera_exprs::expressions::{expr, walk};
 use vera_names::codes::{NOT_ASSIGNABLE, WRONG_TYPE, refused};
+use vera_names::rules::{answered, keeps};
 use vera_values::heads::is_event;
 use vera_values::sight::Sight;
 use vera_values::values::value_of;
 
 /// The whole right side of an assignment, once it was walked: a value, or a call that may wait.
-#[tactic(auto, unfolding(crate::proofs::StepsOpened::steps))]
+#[tactic(auto, unfolding(vera_names::proofs::StepsOpened::rules))]
 fn taken(alloc: Global, stmt_line: u32, line: u32, head: Head) -> Result<Right, FrontError>
     ensures { Answers (spec.taken stmt_line line head) result }
 {
@@ -36,7 +36,7 @@ fn taken(alloc: Global, stmt_line: u32, line: u32, head: Head) -> Result<Right, 
 }
 
 /// The whole right side of an assignment of the statement or variable of a line.
-#[tactic(auto, unfolding(crate::proofs::StepsOpened::steps, typing_rules::specs::Assignments::right_side))]
+#[tactic(auto, unfolding(vera_names::proofs::StepsOpened::rules, typing_rules::specs::Assignments::right_side))]
 fn right_side(
     alloc: Global,
     sight: &Sight<'_>,
@@ -60,7 +60,7 @@ fn assigning(right: Right) -> TypedChange
 }
 
 /// A change of a place, where there is one.
-#[tactic(auto, unfolding(crate::proofs::StepsOpened::steps))]
+#[tactic(auto, unfolding(vera_names::proofs::StepsOpened::rules))]
 fn placed(
     line: u32,
     place: Option<TypedPlace>,
@@ -82,7 +82,7 @@ fn placed(
 }
 
 /// An assignment of a right side.
-#[tactic(auto, unfolding(crate::proofs::StepsOpened::steps, crate::specs::SideLists::assign_right))]
+#[tactic(auto, unfolding(vera_names::proofs::StepsOpened::rules, crate::specs::SideLists::assign_right))]
 fn assign_right(
     parents: &[Option<u32>],
     line: u32,
@@ -97,7 +97,7 @@ fn assign_right(
 }
 
 /// An assignment to what is no signal.
-#[tactic(auto, unfolding(crate::proofs::StepsOpened::steps, crate::specs::SideLists::assign_value))]
+#[tactic(auto, unfolding(vera_names::proofs::StepsOpened::rules, crate::specs::SideLists::assign_value))]
 fn assign_value(
     alloc: Global,
     sight: &Sight<'_>,
@@ -112,7 +112,7 @@ fn assign_value(
 }
 
 /// An assignment to a signal: a drive.
-#[tactic(auto, unfolding(crate::proofs::StepsOpened::steps, crate::specs::SideLists::assign_signal))]
+#[tactic(auto, unfolding(vera_names::proofs::StepsOpened::rules, crate::specs::SideLists::assign_signal))]
 fn assign_signal(
     alloc: Global,
     sight: &Sight<'_>,
@@ -151,7 +151,7 @@ fn assign(
 }
 
 /// A change by a value of a type: vectors alone.
-#[tactic(auto, unfolding(crate::proofs::StepsOpened::steps, crate::specs::SideLists::added))]
+#[tactic(auto, unfolding(vera_names::proofs::StepsOpened::rules, crate::specs::SideLists::added))]
 fn added(line: u32, side: Side, of: ValueType, change: TypedChange) -> Result<TypedStmt, FrontError>
     ensures { Answers (sides.added line side of change) result }
 {
@@ -160,7 +160,7 @@ fn added(line: u32, side: Side, of: ValueType, change: TypedChange) -> Result<Ty
 }
 
 /// `+=`: vectors alone.
-#[tactic(auto, unfolding(crate::proofs::StepsOpened::steps, crate::specs::SideLists::add_to))]
+#[tactic(auto, unfolding(vera_names::proofs::StepsOpened::rules, crate::specs::SideLists::add_to))]
 fn add(
     alloc: Global,
     sight: &Sight<'_>,
@@ -175,7 +175,7 @@ fn add(
 }
 
 /// `-=`: vectors alone.
-#[tactic(auto, unfolding(crate::proofs::StepsOpened::steps, crate::specs::SideLists::add_to))]
+#[tactic(auto, unfolding(vera_names::proofs::StepsOpened::rules, crate::specs::SideLists::add_to))]
 fn subtract(
     alloc: Global,
     sight: &Sight<'_>,
@@ -190,7 +190,7 @@ fn subtract(
 }
 
 /// `++` and `--`: vectors alone.
-#[tactic(auto, unfolding(crate::proofs::StepsOpened::steps, crate::specs::SideLists::count_at))]
+#[tactic(auto, unfolding(vera_names::proofs::StepsOpened::rules, crate::specs::SideLists::count_at))]
 fn count(line: u32, side: Side, change: TypedChange) -> Result<TypedStmt, FrontError>
     ensures { Answers (sides.count_at line side change) result }
 {
@@ -253,7 +253,7 @@ fn initial_value(right: Right) -> InitialValue
 }
 
 /// The value of a variable of this type.
-#[tactic(auto, unfolding(crate::proofs::StepsOpened::steps, crate::specs::SimpleForms::value_declared))]
+#[tactic(auto, unfolding(vera_names::proofs::StepsOpened::rules, crate::specs::SimpleForms::value_declared))]
 fn value_declared(
     alloc: Global,
     sight: &Sight<'_>,
@@ -278,7 +278,7 @@ fn value_declared(
 }
 
 /// The value of a declared variable, where it has one.
-#[tactic(auto, unfolding(crate::proofs::StepsOpened::steps, typing_rules::specs::Assignments::declared_value, crate::specs::SimpleForms::value_declared))]
+#[tactic(auto, unfolding(vera_names::proofs::StepsOpened::rules, typing_rules::specs::Assignments::declared_value, crate::specs::SimpleForms::value_declared))]
 pub fn declared_value(
     alloc: Global,
     sight: &Sight<'_>,

@@ -8,19 +8,19 @@ ghost use Rattle.typing_rules.specs.Drives as spec;
 ghost use Rattle.vera_steps.specs.TargetLists as targets;
 ghost use Rattle.typing_rules.specs.Types as types;
 
-use crate::rules::{answered, keeps};
 use crate::targets::{Target, walk_target};
 use std::alloc::Global;
 use typing_rules::head::{Head, Typed};
 use vera_ast::{
-    Delay, DelayForm, Direction, Drive, DriveOperator, FrontError, TypedDrive, TypedExpr,
-    TypedSignalName, TypedStmt,
+    Delay, DelayForm, Direction, Drive, DriveOperator, FrontError, TypedDrive, TypedSignalName,
+    TypedStmt,
 };
 use vera_calls::calls::is_function;
 use vera_exprs::expressions::expr;
 use vera_names::codes::{NOT_HERE, WRONG_SIGNAL, WRONG_TYPE, refused};
 use vera_names::fitting::is_vector;
-use vera_values::heads::{is_output, number};
+use vera_names::rules::{answered, keeps};
+use vera_values::heads::{expr_or_missing, is_output, number};
 use vera_values::posts::name;
 use vera_values::sight::Sight;
 use vera_values::values::value_of;
@@ -41,17 +41,8 @@ fn is_wrong_drive(delay: &Option<Typed>, value: &Typed) -> bool
     is_wrong_delay(delay) || !is_vector(value.of)
 }
 
-fn delay_expr(delay: Option<Typed>) -> Option<TypedExpr>
-    ensures { result ≡ spec.delay_expr delay }
-{
-    match delay {
-        Some(delay) => Some(delay.expr),
-        None => None,
-    }
-}
-
 /// A drive of a signal.
-#[tactic(auto, unfolding(crate::proofs::StepsOpened::steps, typing_rules::specs::Drives::drive))]
+#[tactic(auto, unfolding(vera_names::proofs::StepsOpened::rules, typing_rules::specs::Drives::drive))]
 pub fn drive(
     sight: &Sight<'_>,
     line: u32,
@@ -73,7 +64,7 @@ pub fn drive(
     ))?;
     Ok(TypedStmt::Drive(TypedDrive {
         line,
-        delay: delay_expr(delay),
+        delay: expr_or_missing(delay),
         target: signal,
         operator,
         value: value.expr,
@@ -88,7 +79,7 @@ fn named(sight: &Sight<'_>, line: u32, word: &[u8]) -> Result<Head, FrontError>
 }
 
 /// `delay = number | name | "(" expr ")"`.
-#[tactic(auto, unfolding(crate::proofs::StepsOpened::steps, typing_rules::specs::Drives::delay))]
+#[tactic(auto, unfolding(vera_names::proofs::StepsOpened::rules, typing_rules::specs::Drives::delay))]
 pub fn delay(alloc: Global, sight: &Sight<'_>, delay: &Delay) -> Result<Typed, FrontError>
     ensures { Answers (spec.delay sight.now delay.now) result }
 {
@@ -103,7 +94,7 @@ pub fn delay(alloc: Global, sight: &Sight<'_>, delay: &Delay) -> Result<Typed, F
 }
 
 /// A delay that may be missing.
-#[tactic(auto, unfolding(crate::proofs::StepsOpened::steps))]
+#[tactic(auto, unfolding(vera_names::proofs::StepsOpened::rules))]
 pub fn delay_or_missing(
     alloc: Global,
     sight: &Sight<'_>,
@@ -118,7 +109,7 @@ pub fn delay_or_missing(
 }
 
 /// A drive, once its parts were walked: of a whole signal alone.
-#[tactic(auto, unfolding(crate::proofs::StepsOpened::steps))]
+#[tactic(auto, unfolding(vera_names::proofs::StepsOpened::rules))]
 fn driven(
     sight: &Sight<'_>,
     stmt: &Drive,

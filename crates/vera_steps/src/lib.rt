@@ -3,7 +3,6 @@
 
 pub mod assignments;
 pub mod drives;
-pub mod rules;
 pub mod sides;
 pub mod targets;
 pub mod waits;

@@ -155,7 +155,7 @@ fn side_of(alloc: Global, head: Head) -> Result<Side, NoMemory>
 }
 
 /// The left side that a `post` is.
-#[tactic(auto, unfolding(crate::proofs::StepsOpened::steps, crate::specs::SideLists::walk_side))]
+#[tactic(auto, unfolding(vera_names::proofs::StepsOpened::rules, crate::specs::SideLists::walk_side))]
 pub fn walk_side(alloc: Global, sight: &Sight<'_>, post: &Postfix) -> Result<Side, FrontError>
     ensures { Answers (spec.walk_side sight.now post.now) result }
 {

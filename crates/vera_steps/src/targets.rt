@@ -31,7 +31,7 @@ pub fn target_of(head: &Head) -> Option<Target>
 }
 
 /// The whole signal that a `post` names, where it is one.
-#[tactic(auto, unfolding(crate::proofs::StepsOpened::steps, crate::specs::TargetLists::walk_target))]
+#[tactic(auto, unfolding(vera_names::proofs::StepsOpened::rules, crate::specs::TargetLists::walk_target))]
 pub fn walk_target(
     alloc: Global,
     sight: &Sight<'_>,

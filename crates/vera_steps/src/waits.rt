@@ -4,6 +4,7 @@ ghost use Rattle.std.specs.Prelude.{◌≡◌, ◌&&◌, ◌∷◌, [], not, opt
 ghost use Rattle.typing_rules.specs.Answers.{Answers};
 ghost use Rattle.typing_rules.specs.Checked as checked;
 ghost use Rattle.typing_rules.specs.Heads as heads;
+ghost use Rattle.typing_rules.specs.Interfaces as interfaces;
 ghost use Rattle.typing_rules.specs.Scopes as scopes;
 ghost use Rattle.vera_steps.specs.SimpleForms as lists;
 ghost use Rattle.typing_rules.specs.Types as types;
@@ -11,7 +12,6 @@ ghost use Rattle.typing_rules.specs.Waits as spec;
 ghost use Rattle.vera_steps.specs.TargetLists as targets;
 
 use crate::drives::{delay, delay_or_missing};
-use crate::rules::{answered, keeps};
 use crate::targets::{Target, walk_target};
 use four_state::List;
 use std::alloc::Global;
@@ -19,23 +19,24 @@ use typing_rules::head::Typed;
 use typing_rules::names::Meaning;
 use vera_ast::{
     Direction, Edge, EdgeClock, Expect, FrontError, Refusal, Term, TypedEdge, TypedExpect,
-    TypedExpr, TypedSignalKind, TypedStmt, TypedTerm, TypedWindow, Window,
+    TypedSignalKind, TypedStmt, TypedTerm, TypedWindow, Window,
 };
 use vera_calls::calls::is_function;
 use vera_exprs::expressions::expr;
 use vera_names::codes::{NOT_HERE, UNKNOWN_NAME, WRONG_SIGNAL, WRONG_TYPE};
 use vera_names::fitting::is_vector;
-use vera_values::heads::is_output;
+use vera_names::rules::{answered, keeps};
+use vera_values::heads::{expr_or_missing, is_output};
 use vera_values::sight::Sight;
 
 fn is_clock(kind: TypedSignalKind) -> bool
-    ensures { result ≡ spec.is_clock kind }
+    ensures { result ≡ interfaces.is_clock_kind kind }
 {
     matches!(kind, TypedSignalKind::Clock)
 }
 
 /// The kind of a signal behind what a name stands for.
-#[tactic(auto, unfolding(crate::proofs::StepsOpened::steps))]
+#[tactic(auto, unfolding(vera_names::proofs::StepsOpened::rules))]
 fn kind_in(
     sight: &Sight<'_>,
     line: u32,
@@ -60,7 +61,7 @@ fn kind_in(
 }
 
 /// What a name stands for.
-#[tactic(auto, unfolding(crate::proofs::StepsOpened::steps))]
+#[tactic(auto, unfolding(vera_names::proofs::StepsOpened::rules))]
 fn meaning(sight: &Sight<'_>, line: u32, name: &[u8]) -> Result<Meaning, Refusal>
     ensures { result ≡ checked.known checked.unknown_name line (scopes.meaning_of sight.now.scopes name.now) }
 {
@@ -74,7 +75,7 @@ fn meaning(sight: &Sight<'_>, line: u32, name: &[u8]) -> Result<Meaning, Refusal
 }
 
 /// Whether an edge is that of a signal which is no clock.
-#[tactic(auto, unfolding(crate::proofs::StepsOpened::steps))]
+#[tactic(auto, unfolding(vera_names::proofs::StepsOpened::rules))]
 fn is_wrong_edge(sight: &Sight<'_>, line: u32, clock: &EdgeClock) -> Result<bool, Refusal>
     ensures { result ≡ spec.is_wrong_edge sight.now line clock.now }
 {
@@ -89,7 +90,7 @@ fn is_wrong_edge(sight: &Sight<'_>, line: u32, clock: &EdgeClock) -> Result<bool
 }
 
 /// `edge = "@" "(" "posedge" ( "CLOCK" | name "." name ) ")"`.
-#[tactic(auto, unfolding(crate::proofs::StepsOpened::steps, typing_rules::specs::Waits::edge_stmt))]
+#[tactic(auto, unfolding(vera_names::proofs::StepsOpened::rules, typing_rules::specs::Waits::edge_stmt))]
 pub fn edge_stmt(sight: &Sight<'_>, edge: &Edge) -> Result<TypedStmt, Refusal>
     ensures { result ≡ spec.edge_stmt sight.now edge.now }
 {
@@ -123,17 +124,8 @@ fn are_vectors(first: &Typed, second: &Option<Typed>) -> bool
     is_vector(first.of) && is_vector_or_missing(second)
 }
 
-fn expr_or_missing(value: Option<Typed>) -> Option<TypedExpr>
-    ensures { result ≡ spec.expr_or_missing value }
-{
-    match value {
-        Some(value) => Some(value.expr),
-        None => None,
-    }
-}
-
 /// A window, and whether its delays are vectors, which is a rule of its statement.
-#[tactic(auto, unfolding(crate::proofs::StepsOpened::steps, typing_rules::specs::Waits::window))]
+#[tactic(auto, unfolding(vera_names::proofs::StepsOpened::rules, typing_rules::specs::Waits::window))]
 fn window(
     alloc: Global,
     sight: &Sight<'_>,
@@ -153,7 +145,7 @@ fn window(
 }
 
 /// A window that may be missing.
-#[tactic(auto, unfolding(crate::proofs::StepsOpened::steps))]
+#[tactic(auto, unfolding(vera_names::proofs::StepsOpened::rules))]
 fn window_or_missing(
     alloc: Global,
     sight: &Sight<'_>,
@@ -199,7 +191,7 @@ fn keeps_term(line: u32, value: &Typed, direction: Direction) -> Result<(), Refu
 }
 
 /// A term, once its parts were walked: of a whole input signal, which isn't read here.
-#[tactic(auto, unfolding(crate::proofs::StepsOpened::steps))]
+#[tactic(auto, unfolding(vera_names::proofs::StepsOpened::rules))]
 fn expected(term: &Term, target: Option<Target>, value: Typed) -> Result<TypedTerm, Refusal>
     ensures { result ≡ targets.expected term.now target value }
 {
@@ -241,7 +233,7 @@ fn terms(alloc: Global, sight: &Sight<'_>, terms: &[Term]) -> Result<List<TypedT
 }
 
 /// `[ ( "@" | "@@" | "@@@" ) delay [ "," delay ] ] [ "soft" ] term { "," term } [ "soft" ] ";"`.
-#[tactic(auto, unfolding(crate::proofs::StepsOpened::steps, typing_rules::specs::Waits::expect_stmt))]
+#[tactic(auto, unfolding(vera_names::proofs::StepsOpened::rules, typing_rules::specs::Waits::expect_stmt))]
 pub fn expect_stmt(
     alloc: Global,
     sight: &Sight<'_>,

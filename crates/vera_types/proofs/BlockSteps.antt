@@ -6,49 +6,20 @@ use Rattle.vera_ast.specs.declared.tree.declarations.Decl.{Decl}
 use Rattle.vera_ast.specs.declared.tree.declarations.Variable.{Variable}
 use Rattle.vera_ast.specs.declared.typed.names.VariablePlace.{VariablePlace}
 use Rattle.vera_ast.specs.declared.typed.types.VariableType.{VariableType}
-use Rattle.vera_steps.proofs.StmtSteps.{part_goes, part_ends}
+use Rattle.vera_names.proofs.Items.{part_goes, part_ends}
 use Rattle.typing_rules.specs.Blocks.{Placed, PlacedDecl, placed, placed_decls, name_of, scope_of}
-use Rattle.typing_rules.specs.DataTypes.{names_of, names_in}
 use Rattle.vera_names.specs.Named.{declared_as}
 use Rattle.typing_rules.specs.Scopes.{Scope, later}
 use Rattle.typing_rules.specs.declared.names.Meaning.TheVariants.{Later}
 
 -- ---- names whose types aren't told yet
 
-pub later_goes : (vs : List Variable) (i : ℕ) (v : Variable) (done more whole : Scope) → i < length vs → v ≡ get_or vs i v → more ≡ done ++ declared_as v.name Later ∷ []
-    → done ++ later (map (λ v. v.name) (drop i vs)) ≡ whole → more ++ later (map (λ v. v.name) (drop (i + 1) vs)) ≡ whole
-unfolding later
-later_goes vs i v done more whole lt at is h =
-    part_goes (λ (us : List Variable). later (map (λ u. u.name) us)) vs i v (declared_as (get_or vs i v).name Later ∷ []) done more whole refl lt (is ∙ ap (λ (u : Variable). done ++ declared_as u.name Later ∷ []) at) h
-
-pub later_ends : (vs : List Variable) (i : ℕ) (done whole : Scope) → length vs ≤ i → done ++ later (map (λ v. v.name) (drop i vs)) ≡ whole → done ≡ whole
-unfolding later
-later_ends vs i done whole le h = part_ends (λ (us : List Variable). later (map (λ u. u.name) us)) vs i done whole refl le h
-
 later_both : (ns ms : List (List ℕ)) → later (ns ++ ms) ≡ later ns ++ later ms
 unfolding later
 later_both [] ms = refl
 later_both (n ∷ ns) ms = ap (λ (ds : Scope). declared_as n Later ∷ ds) (later_both ns ms)
 
-pub later_decls_go : (ds : List Decl) (i : ℕ) (d : Decl) (done more whole : Scope) → i < length ds → d ≡ get_or ds i d → more ≡ done ++ later (map (λ v. v.name) d.variables)
-    → done ++ later (names_in (drop i ds)) ≡ whole → more ++ later (names_in (drop (i + 1) ds)) ≡ whole
-unfolding names_in
-later_decls_go ds i d done more whole lt at is h =
-    part_goes (λ (es : List Decl). later (names_in es)) ds i d (later (names_of (get_or ds i d))) done more whole (later_both (names_of (get_or ds i d)) (names_in (drop (i + 1) ds))) lt (is ∙ ap (λ (e : Decl). done ++ later (names_of e)) at) h
-
-pub later_decls_end : (ds : List Decl) (i : ℕ) (done whole : Scope) → length ds ≤ i → done ++ later (names_in (drop i ds)) ≡ whole → done ≡ whole
-unfolding names_in later
-later_decls_end ds i done whole le h = part_ends (λ (es : List Decl). later (names_in es)) ds i done whole refl le h
-
 -- ---- names of variables
-
-pub names_go : (ps : List Placed) (i : ℕ) (p : Placed) (done more whole : Scope) → i < length ps → p ≡ get_or ps i p → more ≡ done ++ name_of p ∷ []
-    → done ++ map name_of (drop i ps) ≡ whole → more ++ map name_of (drop (i + 1) ps) ≡ whole
-names_go ps i p done more whole lt at is h =
-    part_goes (λ (qs : List Placed). map name_of qs) ps i p (name_of (get_or ps i p) ∷ []) done more whole refl lt (is ∙ ap (λ (q : Placed). done ++ name_of q ∷ []) at) h
-
-pub names_end : (ps : List Placed) (i : ℕ) (done whole : Scope) → length ps ≤ i → done ++ map name_of (drop i ps) ≡ whole → done ≡ whole
-names_end ps i done whole le h = part_ends (λ (qs : List Placed). map name_of qs) ps i done whole refl le h
 
 pub scopes_go : (ds : List PlacedDecl) (i : ℕ) (d : PlacedDecl) (done more whole : Scope) → i < length ds → d ≡ get_or ds i d → more ≡ done ++ map name_of d.variables
     → done ++ scope_of (drop i ds) ≡ whole → more ++ scope_of (drop (i + 1) ds) ≡ whole

@@ -1,25 +1,23 @@
 -- What is in sight in a block and in a body, as the code puts it together.
-use Rattle.std.proofs.Common.{◌≡◌, ℕ, ◌+◌, ◌<◌, ◌≤◌, false, List, [], ◌∷◌, ◌++◌, length, get_or, drop, refl, sym, ap, ◌∙◌}
+use Rattle.std.proofs.Common.{◌≡◌, ℕ, ◌+◌, ◌<◌, ◌≤◌, List, [], ◌∷◌, ◌++◌, length, get_or, drop, refl, sym, ap, ◌∙◌}
 use Rattle.std.specs.Prelude.{suc, Ok, Err}
 use Rattle.std.proofs.lemmas.List.{append-nil, append_assoc, at_drop_more, at_drop_all}
 use Rattle.vera_ast.specs.declared.tree.items.Parameter.{Parameter}
 use Rattle.vera_ast.specs.declared.typed.file.TypedParameter.{TypedParameter}
 use Rattle.vera_ast.specs.declared.typed.types.VariableType.TheVariants.{Value}
-use Rattle.vera_steps.proofs.StmtSteps.{one_more}
+use Rattle.vera_names.proofs.Items.{one_more}
 use Rattle.typing_rules.specs.Blocks.{PlacedDecl, scope_of, inside}
 use Rattle.typing_rules.specs.Answers.{Answers}
-use Rattle.typing_rules.specs.Bodies.{parameter_place, typed_parameters, parameter_scope, in_body}
+use Rattle.typing_rules.specs.Bodies.{parameter_place, typed_parameters, parameter_scope}
 use Rattle.typing_rules.specs.Checked.{Checked, ◌>>=◌}
 use Rattle.typing_rules.specs.DataTypes.{data_type}
-use Rattle.vera_steps.specs.SimpleForms.{behind}
+use Rattle.vera_names.specs.Lists.{behind}
 use Rattle.vera_ast.specs.declared.refusal.FrontError.{FrontError}
 use Rattle.vera_ast.specs.declared.refusal.FrontError.TheVariants.{Refused, NoMemory}
 use Rattle.vera_ast.specs.declared.typed.types.ValueType.{ValueType}
 use Rattle.vera_names.specs.Named.{declared_as}
 use Rattle.typing_rules.specs.Scopes.{Scope, Scopes}
-use Rattle.typing_rules.specs.declared.context.Body.{Body}
 use Rattle.typing_rules.specs.declared.context.Context.{Context}
-use Rattle.typing_rules.specs.declared.context.Outline.{Outline}
 use Rattle.typing_rules.specs.declared.names.Meaning.TheVariants as means
 
 pub inside_is : (c inner : Context) (vs : List PlacedDecl) (scope : Scope) (scopes : Scopes) (n : ℕ)
@@ -30,13 +28,6 @@ inside_is c inner vs scope scopes n own all slots e =
     ∙ ap (λ (m : ℕ). record c { scopes = scopes; slots = m }) slots
     ∙ ap (λ (ss : Scopes). record c { scopes = ss; slots = c.slots + length scope }) all
     ∙ ap (λ (s : Scope). record c { scopes = s ∷ c.scopes; slots = c.slots + length s }) own
-
-pub in_body_is : (outline : Outline) (inner all : Scopes) (n m : ℕ) (of : Body) (sight : Context) → inner ≡ all → n ≡ m
-    → sight ≡ record { outline = outline; scopes = inner; slots = n; body = of; is_in_loop = false } → sight ≡ in_body outline all m of
-in_body_is outline inner all n m of sight scopes slots e =
-    e
-    ∙ ap (λ (ss : Scopes). in_body outline ss n of) scopes
-    ∙ ap (λ (k : ℕ). in_body outline all k of) slots
 
 -- ---- parameters
 

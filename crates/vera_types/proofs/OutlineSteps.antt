@@ -31,8 +31,9 @@ use Rattle.typing_rules.specs.declared.context.Outline.{Outline}
 use Rattle.typing_rules.specs.declared.names.Expected.{Expected}
 use Rattle.typing_rules.specs.declared.names.KnownSignal.{KnownSignal}
 use Rattle.typing_rules.specs.declared.names.Routine.{Routine}
-use Rattle.vera_steps.proofs.StmtSteps.{one_more, within, follow, goes}
-use Rattle.vera_steps.specs.SimpleForms.{behind}
+use Rattle.vera_names.proofs.Answering.{within, follow, go_on}
+use Rattle.vera_names.proofs.Items.{one_more}
+use Rattle.vera_names.specs.Lists.{behind}
 use Rattle.vera_types.specs.OutlineForms.{Leads, task_routine, function_routine, signals_and, items_in, items_behind, file_items, checked_items}
 
 -- ---- a part whose result stands in front of what is left
@@ -50,10 +51,6 @@ refused_first : {A B : Type 0} (p : Checked A) (f : A → B) (rest : Checked (Li
 unfolding ◌>>=◌
 refused_first (Ok a) f rest r done e = absurd cc
 refused_first (Err q) f rest r done e = cc
-
-behind_none : {B : Type 0} (p : Checked (List B)) → behind [] p ≡ p
-behind_none (Ok bs) = refl
-behind_none (Err r) = refl
 
 -- where two parts come first
 in_front_of_two : {A C B : Type 0} (p : Checked A) (q : A → Checked C) (f : A → C → B) (rest : Checked (List B)) (b : B) (done more : List B)
@@ -139,9 +136,6 @@ interface_leads scopes n x i signals left done after r e s h =
 
 -- ---- a list that is gone through
 
-pub leads_first : {X B : Type 0} (f : List X → Checked (List B)) (xs : List X) (done : List B) → done ≡ [] → behind done (f (drop 0 xs)) ≡ f xs
-leads_first {X = X} {B = B} f xs done e = ap (λ (ds : List B). behind ds (f xs)) e ∙ behind_none (f xs)
-
 pub leads_on : {X B : Type 0} (f g : List X → Checked (List B)) (xs : List X) (i : ℕ) (x : X) (done more : List B) (whole : Checked (List B))
     → i < length xs → x ≡ get_or xs i x → behind done (f (x ∷ drop (i + 1) xs)) ≡ behind more (g (drop (i + 1) xs)) → behind done (f (drop i xs)) ≡ whole → behind more (g (drop (i + 1) xs)) ≡ whole
 leads_on {X = X} f g xs i x done more whole lt at next h =
@@ -218,7 +212,7 @@ check_refused tree NoMemory h = tt
 
 pub items_of_one : (items : List Item) (main : ProgramItem) (r : Result (List TypedItem) FrontError) → Ok main ≡ one_program items → Answers (file_items (file_scope items ∷ []) main items) r → Answers (checked_items items) r
 unfolding checked_items
-items_of_one items main r e h = goes (one_program items) (λ (of : ProgramItem). file_items (file_scope items ∷ []) of items) main r (sym e) h
+items_of_one items main r e h = go_on (one_program items) main (λ (of : ProgramItem). file_items (file_scope items ∷ []) of items) r (sym e) h
 
 pub not_one : (items : List Item) (r : Refusal) → Err r ≡ one_program items → checked_items items ≡ Err r
 unfolding checked_items ◌>>=◌

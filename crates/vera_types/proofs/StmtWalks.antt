@@ -19,7 +19,7 @@ use Rattle.vera_ast.specs.declared.typed.stmt.TypedStmt.{TypedStmt}
 use Rattle.vera_ast.specs.declared.typed.stmt.TypedStmt.TheVariants as typed
 use Rattle.vera_ast.specs.declared.typed.stmt.TypedBlock.{TypedBlock}
 use Rattle.vera_ast.specs.declared.refusal.FrontError.{FrontError}
-use Rattle.vera_steps.proofs.StmtSteps.{follow, alike}
+use Rattle.vera_names.proofs.Answering.{follow, along}
 use Rattle.typing_rules.specs.Answers.{Answers}
 use Rattle.vera_ast.specs.declared.tree.expressions.Postfix.{Postfix}
 use Rattle.vera_ast.specs.declared.tree.statements.Drive.{Drive}
@@ -170,4 +170,4 @@ expect_walks c e = refl
 -- ---- as the code's arms have them
 
 pub arm_answers : (c : Context) (stmt view : Stmt) (d : Checked TypedStmt) (r : Result TypedStmt FrontError) → stmt ≡ view → walk_stmt c view ≡ d → Answers d r → Answers (walk_stmt c stmt) r
-arm_answers c stmt view d r is walks h = alike (walk_stmt c stmt) d r (ap (λ (x : Stmt). walk_stmt c x) is ∙ walks) h
+arm_answers c stmt view d r is walks h = along (walk_stmt c stmt) d r (ap (λ (x : Stmt). walk_stmt c x) is ∙ walks) h

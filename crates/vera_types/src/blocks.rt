@@ -5,7 +5,6 @@ ghost use Rattle.typing_rules.specs.Answers.{Answers};
 ghost use Rattle.typing_rules.specs.Blocks as spec;
 ghost use Rattle.typing_rules.specs.Checked as checked;
 ghost use Rattle.typing_rules.specs.DataTypes as types;
-ghost use Rattle.typing_rules.specs.Scopes as scopes;
 ghost use Rattle.vera_types.specs.StmtForms as lists;
 
 use four_state::{List, NoMemory};
@@ -15,8 +14,9 @@ use typing_rules::names::Meaning;
 use vera_ast::{
     Decl, DeclaredVariable, FrontError, TypedDecl, Variable, VariablePlace, VariableType,
 };
+use vera_decls::variables::decl_types;
+use vera_names::name_sets::variables_later;
 use vera_names::scope::{Scope, Scopes};
-use vera_names::variables::decl_types;
 use vera_steps::assignments::declared_value;
 use vera_values::sight::Sight;
 
@@ -192,29 +192,6 @@ fn placed_decls<'a>(
     Ok(done)
 }
 
-/// A scope with more variables, whose types aren't told yet.
-#[tactic(auto, unfolding(typing_rules::specs::Scopes::later))]
-fn with_later<'a>(scope: Scope<'a>, variables: &'a [Variable]) -> Result<Scope<'a>, NoMemory>
-    ensures { IfOk result (λ new. new ≡ scope.entry ++ scopes.later (map (λ v. v.name) variables.now)) }
-{
-    let mut scope = scope;
-    for variable in variables {
-        scope = scope.with(variable.name.as_slice(), Meaning::Later)?;
-    }
-    Ok(scope)
-}
-
-/// The variables of declarations, whose types aren't told yet.
-pub fn later_scope(alloc: Global, decls: &[Decl]) -> Result<Scope<'_>, NoMemory>
-    ensures { IfOk result (λ scope. scope ≡ scopes.later (types.names_in decls.now)) }
-{
-    let mut scope = Scope::new(alloc);
-    for decl in decls {
-        scope = with_later(scope, decl.variables.as_slice())?;
-    }
-    Ok(scope)
-}
-
 /// The types of variables, where these names of theirs are in sight beside the names around them.
 fn types_among<'a>(
     alloc: Global,
@@ -229,7 +206,7 @@ fn types_among<'a>(
 }
 
 /// The variables of declarations, where these scopes surround them; they are in sight in all of them.
-#[tactic(auto, unfolding(vera_steps::proofs::StepsOpened::steps, typing_rules::specs::Blocks::declared_in))]
+#[tactic(auto, unfolding(vera_names::proofs::StepsOpened::rules, typing_rules::specs::Blocks::declared_in))]
 pub fn declared_in<'a>(
     alloc: Global,
     outer: &Scopes<'_>,
@@ -239,7 +216,7 @@ pub fn declared_in<'a>(
 ) -> Result<List<PlacedDecl<'a>>, FrontError>
     ensures { Answers (spec.declared_in outer.now (lists.place_at owner) first decls.now) result }
 {
-    let later = later_scope(alloc, decls)?;
+    let later = variables_later(alloc, decls)?;
     let types = types_among(alloc, &later, outer, decls)?;
     Ok(placed_decls(alloc, owner, first, decls, types.as_slice())?)
 }
@@ -270,7 +247,7 @@ pub fn scope_of<'a>(alloc: Global, decls: &[PlacedDecl<'a>]) -> Result<Scope<'a>
 }
 
 /// A block's own variables, behind those that are in sight.
-#[tactic(auto, unfolding(vera_steps::proofs::StepsOpened::steps, typing_rules::specs::Blocks::local_decls))]
+#[tactic(auto, unfolding(vera_names::proofs::StepsOpened::rules, typing_rules::specs::Blocks::local_decls))]
 pub fn local_decls<'a>(
     alloc: Global,
     sight: &Sight<'_>,
@@ -281,7 +258,7 @@ pub fn local_decls<'a>(
     declared_in(alloc, sight.scopes(), Owner::Body, sight.slots(), decls)
 }
 
-#[tactic(auto, unfolding(vera_steps::proofs::StepsOpened::steps, typing_rules::specs::Blocks::declared_variable))]
+#[tactic(auto, unfolding(vera_names::proofs::StepsOpened::rules, typing_rules::specs::Blocks::declared_variable))]
 fn declared_variable(
     alloc: Global,
     sight: &Sight<'_>,
@@ -313,7 +290,7 @@ fn declared_variables(
 }
 
 /// A declaration with values is a statement.
-#[tactic(auto, unfolding(vera_steps::proofs::StepsOpened::steps, typing_rules::specs::Blocks::typed_decl))]
+#[tactic(auto, unfolding(vera_names::proofs::StepsOpened::rules, typing_rules::specs::Blocks::typed_decl))]
 fn typed_decl(
     alloc: Global,
     sight: &Sight<'_>,

@@ -17,9 +17,9 @@ use vera_ast::{
     TypedEnumeration, TypedFunction, TypedItem, TypedParameter, TypedProgram, TypedTask,
     TypedVariable, ValueType, VariablePlace, VariableType,
 };
+use vera_decls::interfaces::typed_interface;
 use vera_names::codes::refused;
 use vera_names::data_types::data_type;
-use vera_names::interfaces::typed_interface;
 use vera_names::outline::FileOutline;
 use vera_names::scope::{Scope, Scopes};
 use vera_values::sight::Sight;
@@ -137,7 +137,7 @@ fn body_among<'a>(
 }
 
 /// `task = "task" ( name | "new" ) "(" [ params ] ")" block`.
-#[tactic(auto, unfolding(vera_steps::proofs::StepsOpened::steps, typing_rules::specs::Bodies::task))]
+#[tactic(auto, unfolding(vera_names::proofs::StepsOpened::rules, typing_rules::specs::Bodies::task))]
 fn task(
     alloc: Global,
     outline: &FileOutline<'_>,
@@ -169,7 +169,7 @@ fn result_variable(number: u32, of: ValueType) -> TypedVariable
 }
 
 /// The scope of the variable of a function's name.
-#[tactic(auto, unfolding(vera_steps::proofs::StepsOpened::steps))]
+#[tactic(auto, unfolding(vera_names::proofs::StepsOpened::rules))]
 fn result_scope(alloc: Global, name: &[u8], variable: TypedVariable) -> Result<Scope<'_>, NoMemory>
     ensures { IfOk result (λ scope. scope ≡ spec.result_scope name.now variable) }
 {
@@ -193,7 +193,7 @@ fn function_among<'a>(
 }
 
 /// `func = "function" type name "(" [ params ] ")" block`.
-#[tactic(auto, unfolding(vera_steps::proofs::StepsOpened::steps, typing_rules::specs::Bodies::function))]
+#[tactic(auto, unfolding(vera_names::proofs::StepsOpened::rules, typing_rules::specs::Bodies::function))]
 fn function(
     alloc: Global,
     outline: &FileOutline<'_>,
@@ -228,7 +228,7 @@ fn function(
 }
 
 /// `prog = "program" name block`: its variables are in these scopes already.
-#[tactic(auto, unfolding(vera_steps::proofs::StepsOpened::steps, typing_rules::specs::Bodies::program))]
+#[tactic(auto, unfolding(vera_names::proofs::StepsOpened::rules, typing_rules::specs::Bodies::program))]
 fn program<'a>(
     alloc: Global,
     outline: &'a FileOutline<'a>,
@@ -268,7 +268,7 @@ fn enumeration(alloc: Global, enumeration: &Enumeration) -> Result<TypedEnumerat
 }
 
 /// `item = enum | class | iface | group | task | func | prog`, where these are the program's variables.
-#[tactic(auto, unfolding(vera_steps::proofs::StepsOpened::steps))]
+#[tactic(auto, unfolding(vera_names::proofs::StepsOpened::rules))]
 pub fn item_of(
     alloc: Global,
     outline: &FileOutline<'_>,

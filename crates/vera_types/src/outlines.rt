@@ -5,7 +5,7 @@ ghost use Rattle.typing_rules.specs.Answers.{Answers, with_items};
 ghost use Rattle.typing_rules.specs.Checked as checked;
 ghost use Rattle.typing_rules.specs.Typing as spec;
 ghost use Rattle.vera_ast.specs.declared.tree.items.Item.{Item as ItemOf};
-ghost use Rattle.vera_steps.specs.SimpleForms.{behind};
+ghost use Rattle.vera_names.specs.Lists.{behind};
 ghost use Rattle.vera_types.specs.OutlineForms as lists;
 ghost use Rattle.vera_types.specs.OutlineForms.{Leads};
 
@@ -14,13 +14,13 @@ use four_state::{List, NoMemory};
 use std::alloc::Global;
 use typing_rules::names::{Expected, Routine};
 use vera_ast::{FrontError, Function, Item, Parameter, Signal, Task};
+use vera_decls::interfaces::known_signals;
 use vera_names::data_types::data_type;
-use vera_names::interfaces::known_signals;
 use vera_names::outline::{FileOutline, Signals};
 use vera_names::scope::Scopes;
 
 /// A parameter as its calls see it.
-#[tactic(auto, unfolding(vera_steps::proofs::StepsOpened::steps, typing_rules::specs::Typing::expected))]
+#[tactic(auto, unfolding(vera_names::proofs::StepsOpened::rules, typing_rules::specs::Typing::expected))]
 fn expected(
     alloc: Global,
     scopes: &Scopes<'_>,
@@ -49,7 +49,7 @@ fn all_expected(
     Ok(found)
 }
 
-#[tactic(auto, unfolding(vera_steps::proofs::StepsOpened::steps, crate::specs::OutlineForms::task_routine))]
+#[tactic(auto, unfolding(vera_names::proofs::StepsOpened::rules, crate::specs::OutlineForms::task_routine))]
 fn task_routine(alloc: Global, scopes: &Scopes<'_>, task: &Task) -> Result<Routine, FrontError>
     ensures { Answers (lists.task_routine scopes.now task.now) result }
 {
@@ -60,7 +60,7 @@ fn task_routine(alloc: Global, scopes: &Scopes<'_>, task: &Task) -> Result<Routi
     })
 }
 
-#[tactic(auto, unfolding(vera_steps::proofs::StepsOpened::steps, crate::specs::OutlineForms::function_routine))]
+#[tactic(auto, unfolding(vera_names::proofs::StepsOpened::rules, crate::specs::OutlineForms::function_routine))]
 fn function_routine(
     alloc: Global,
     scopes: &Scopes<'_>,
@@ -236,7 +236,7 @@ fn interfaces_in<'a>(
 }
 
 /// What a file declares, as all its bodies see it.
-#[tactic(auto, unfolding(vera_steps::proofs::StepsOpened::steps, typing_rules::specs::Typing::outline_of))]
+#[tactic(auto, unfolding(vera_names::proofs::StepsOpened::rules, typing_rules::specs::Typing::outline_of))]
 pub fn outline_of<'a>(
     alloc: Global,
     scopes: &Scopes<'_>,

@@ -26,16 +26,16 @@ use vera_calls::calls::is_function;
 use vera_exprs::expressions::{expr, walk_post};
 use vera_names::codes::{NOT_HERE, PAST_LIMIT, WRONG_TYPE};
 use vera_names::fitting::is_vector;
+use vera_names::rules::{answered, keeps};
 use vera_names::scope::{Scope, Scopes};
 use vera_steps::assignments::step;
 use vera_steps::drives::drive_stmt;
-use vera_steps::rules::{answered, keeps};
 use vera_steps::waits::{edge_stmt, expect_stmt};
 use vera_values::sight::Sight;
 use vera_values::values::value_of;
 
 /// An expression that is a vector, for the part that begins on a line.
-#[tactic(auto, unfolding(vera_steps::proofs::StepsOpened::steps, typing_rules::specs::Statements::vector))]
+#[tactic(auto, unfolding(vera_names::proofs::StepsOpened::rules, typing_rules::specs::Statements::vector))]
 fn vector(
     alloc: Global,
     sight: &Sight<'_>,
@@ -50,7 +50,7 @@ fn vector(
 }
 
 /// What becomes of a `post` that is a statement; its value is dropped.
-#[tactic(auto, unfolding(vera_steps::proofs::StepsOpened::steps))]
+#[tactic(auto, unfolding(vera_names::proofs::StepsOpened::rules))]
 fn alone(alloc: Global, line: u32, post_line: u32, head: Head) -> Result<TypedStmt, FrontError>
     ensures { Answers (spec.alone line post_line head) result }
 {
@@ -82,7 +82,7 @@ fn alone(alloc: Global, line: u32, post_line: u32, head: Head) -> Result<TypedSt
 }
 
 /// `post ";"`.
-#[tactic(auto, unfolding(vera_steps::proofs::StepsOpened::steps, typing_rules::specs::Statements::call_stmt))]
+#[tactic(auto, unfolding(vera_names::proofs::StepsOpened::rules, typing_rules::specs::Statements::call_stmt))]
 fn call_stmt(alloc: Global, sight: &Sight<'_>, post: &Postfix) -> Result<TypedStmt, FrontError>
     ensures { Answers (spec.call_stmt sight.now post.now) result }
 {
@@ -91,7 +91,7 @@ fn call_stmt(alloc: Global, sight: &Sight<'_>, post: &Postfix) -> Result<TypedSt
 }
 
 /// `"void" "=" post ";"`.
-#[tactic(auto, unfolding(vera_steps::proofs::StepsOpened::steps, typing_rules::specs::Statements::void_stmt))]
+#[tactic(auto, unfolding(vera_names::proofs::StepsOpened::rules, typing_rules::specs::Statements::void_stmt))]
 fn void_stmt(alloc: Global, sight: &Sight<'_>, void: &Void) -> Result<TypedStmt, FrontError>
     ensures { Answers (spec.void_stmt sight.now void.now) result }
 {
@@ -110,7 +110,7 @@ fn exprs(alloc: Global, sight: &Sight<'_>, values: &[Expr]) -> Result<List<Typed
 }
 
 /// A value that has to be a vector.
-#[tactic(auto, unfolding(vera_steps::proofs::StepsOpened::steps))]
+#[tactic(auto, unfolding(vera_names::proofs::StepsOpened::rules))]
 fn label(line: u32, value: Typed) -> Result<TypedExpr, FrontError>
     ensures { Answers (lists.label line value) result }
 {
@@ -131,7 +131,7 @@ fn labels(alloc: Global, line: u32, values: List<Typed>) -> Result<List<TypedExp
 }
 
 /// `expr { "," expr } | "default"`.
-#[tactic(auto, unfolding(vera_steps::proofs::StepsOpened::steps))]
+#[tactic(auto, unfolding(vera_names::proofs::StepsOpened::rules))]
 fn arm_label(
     alloc: Global,
     sight: &Sight<'_>,
@@ -149,7 +149,7 @@ fn arm_label(
     }
 }
 
-#[tactic(auto, unfolding(vera_steps::proofs::StepsOpened::steps))]
+#[tactic(auto, unfolding(vera_names::proofs::StepsOpened::rules))]
 fn break_stmt(sight: &Sight<'_>, line: u32) -> Result<TypedStmt, FrontError>
     ensures { Answers (lists.in_loop_only sight.now line (typed.Break line)) result }
 {
@@ -157,7 +157,7 @@ fn break_stmt(sight: &Sight<'_>, line: u32) -> Result<TypedStmt, FrontError>
     Ok(TypedStmt::Break(line))
 }
 
-#[tactic(auto, unfolding(vera_steps::proofs::StepsOpened::steps))]
+#[tactic(auto, unfolding(vera_names::proofs::StepsOpened::rules))]
 fn continue_stmt(sight: &Sight<'_>, line: u32) -> Result<TypedStmt, FrontError>
     ensures { Answers (lists.in_loop_only sight.now line (typed.Continue line)) result }
 {
@@ -165,7 +165,7 @@ fn continue_stmt(sight: &Sight<'_>, line: u32) -> Result<TypedStmt, FrontError>
     Ok(TypedStmt::Continue(line))
 }
 
-#[tactic(auto, unfolding(vera_steps::proofs::StepsOpened::steps, typing_rules::specs::Statements::walk_stmt))]
+#[tactic(auto, unfolding(vera_names::proofs::StepsOpened::rules, typing_rules::specs::Statements::walk_stmt))]
 fn terminate(sight: &Sight<'_>, line: u32) -> Result<TypedStmt, FrontError>
     ensures { Answers (spec.walk_stmt sight.now (views.Terminate line)) result }
 {
@@ -174,7 +174,7 @@ fn terminate(sight: &Sight<'_>, line: u32) -> Result<TypedStmt, FrontError>
 }
 
 /// `stmt`: its alternatives.
-#[tactic(auto, using(crate::proofs::StmtWalks::block_walks), unfolding(vera_steps::proofs::StepsOpened::steps))]
+#[tactic(auto, using(crate::proofs::StmtWalks::block_walks), unfolding(vera_names::proofs::StepsOpened::rules))]
 #[cycle(walk)]
 pub fn walk_stmt(alloc: Global, sight: &Sight<'_>, stmt: &Stmt) -> Result<TypedStmt, FrontError>
     ensures { Answers (spec.walk_stmt sight.now stmt.now) result }
@@ -226,7 +226,7 @@ fn walk_stmts(
 }
 
 /// A block whose variables are these, and in sight already.
-#[tactic(auto, unfolding(vera_steps::proofs::StepsOpened::steps, typing_rules::specs::Bodies::block_with))]
+#[tactic(auto, unfolding(vera_names::proofs::StepsOpened::rules, typing_rules::specs::Bodies::block_with))]
 #[cycle(walk)]
 pub fn block_with(
     alloc: Global,
@@ -278,7 +278,7 @@ fn block_among<'a>(
 }
 
 /// `block = "{" { decl } { stmt } "}"`.
-#[tactic(auto, unfolding(vera_steps::proofs::StepsOpened::steps, typing_rules::specs::Bodies::block, typing_rules::specs::Blocks::inside))]
+#[tactic(auto, unfolding(vera_names::proofs::StepsOpened::rules, typing_rules::specs::Bodies::block, typing_rules::specs::Blocks::inside))]
 #[cycle(walk)]
 pub fn block(alloc: Global, sight: &Sight<'_>, block: &Block) -> Result<TypedBlock, FrontError>
     ensures { Answers (bodies.block sight.now block.now) result }
@@ -290,7 +290,7 @@ pub fn block(alloc: Global, sight: &Sight<'_>, block: &Block) -> Result<TypedBlo
 }
 
 /// `"if" "(" expr ")" stmt [ "else" stmt ]`.
-#[tactic(auto, unfolding(vera_steps::proofs::StepsOpened::steps, crate::specs::StmtForms::if_stmt))]
+#[tactic(auto, unfolding(vera_names::proofs::StepsOpened::rules, crate::specs::StmtForms::if_stmt))]
 #[cycle(walk)]
 fn if_stmt(alloc: Global, sight: &Sight<'_>, choice: &If) -> Result<TypedStmt, FrontError>
     ensures { Answers (lists.if_stmt sight.now choice.now) result }
@@ -307,7 +307,7 @@ fn if_stmt(alloc: Global, sight: &Sight<'_>, choice: &If) -> Result<TypedStmt, F
 }
 
 /// What follows an `else`.
-#[tactic(auto, unfolding(vera_steps::proofs::StepsOpened::steps))]
+#[tactic(auto, unfolding(vera_names::proofs::StepsOpened::rules))]
 #[cycle(walk)]
 fn walk_otherwise(
     alloc: Global,
@@ -323,7 +323,7 @@ fn walk_otherwise(
 }
 
 /// `"while" "(" expr ")" stmt`.
-#[tactic(auto, unfolding(vera_steps::proofs::StepsOpened::steps, crate::specs::StmtForms::while_stmt))]
+#[tactic(auto, unfolding(vera_names::proofs::StepsOpened::rules, crate::specs::StmtForms::while_stmt))]
 #[cycle(walk)]
 fn while_stmt(alloc: Global, sight: &Sight<'_>, turns: &While) -> Result<TypedStmt, FrontError>
     ensures { Answers (lists.while_stmt sight.now turns.now) result }
@@ -338,7 +338,7 @@ fn while_stmt(alloc: Global, sight: &Sight<'_>, turns: &While) -> Result<TypedSt
 }
 
 /// `"repeat" "(" expr ")" stmt`.
-#[tactic(auto, unfolding(vera_steps::proofs::StepsOpened::steps, crate::specs::StmtForms::repeat_stmt))]
+#[tactic(auto, unfolding(vera_names::proofs::StepsOpened::rules, crate::specs::StmtForms::repeat_stmt))]
 #[cycle(walk)]
 fn repeat_stmt(alloc: Global, sight: &Sight<'_>, turns: &Repeat) -> Result<TypedStmt, FrontError>
     ensures { Answers (lists.repeat_stmt sight.now turns.now) result }
@@ -365,7 +365,7 @@ fn boxed_step(
 }
 
 /// `"for" "(" step ";" expr ";" step ")" stmt`.
-#[tactic(auto, unfolding(vera_steps::proofs::StepsOpened::steps, crate::specs::StmtForms::for_stmt))]
+#[tactic(auto, unfolding(vera_names::proofs::StepsOpened::rules, crate::specs::StmtForms::for_stmt))]
 #[cycle(walk)]
 fn for_stmt(alloc: Global, sight: &Sight<'_>, turns: &For) -> Result<TypedStmt, FrontError>
     ensures { Answers (lists.for_stmt sight.now turns.now) result }
@@ -384,7 +384,7 @@ fn for_stmt(alloc: Global, sight: &Sight<'_>, turns: &For) -> Result<TypedStmt, 
 }
 
 /// `"case" "(" expr ")" "{" { arm } "}"`.
-#[tactic(auto, unfolding(vera_steps::proofs::StepsOpened::steps, crate::specs::StmtForms::case_stmt))]
+#[tactic(auto, unfolding(vera_names::proofs::StepsOpened::rules, crate::specs::StmtForms::case_stmt))]
 #[cycle(walk)]
 fn case_stmt(
     alloc: Global,
@@ -412,7 +412,7 @@ fn walk_arms(alloc: Global, sight: &Sight<'_>, arms: &[Arm]) -> Result<Items<Typ
 }
 
 /// `arm = ( expr { "," expr } | "default" ) ":" stmt`.
-#[tactic(auto, unfolding(vera_steps::proofs::StepsOpened::steps, crate::specs::StmtForms::arm))]
+#[tactic(auto, unfolding(vera_names::proofs::StepsOpened::rules, crate::specs::StmtForms::arm))]
 #[cycle(walk)]
 fn walk_arm(alloc: Global, sight: &Sight<'_>, arm: &Arm) -> Result<TypedArm, FrontError>
     ensures { Answers (lists.arm sight.now arm.now) result }
@@ -427,7 +427,7 @@ fn walk_arm(alloc: Global, sight: &Sight<'_>, arm: &Arm) -> Result<TypedArm, Fro
 }
 
 /// `"fork" stmt { stmt } "join" [ "all" | "any" | "none" ]`: at most 4,096 branches, which don't stand in a function.
-#[tactic(auto, unfolding(vera_steps::proofs::StepsOpened::steps, crate::specs::StmtForms::fork_stmt))]
+#[tactic(auto, unfolding(vera_names::proofs::StepsOpened::rules, crate::specs::StmtForms::fork_stmt))]
 #[cycle(walk)]
 fn fork_stmt(alloc: Global, sight: &Sight<'_>, fork: &Fork) -> Result<TypedStmt, FrontError>
     ensures { Answers (lists.fork_stmt sight.now fork.now) result }

@@ -11,14 +11,15 @@ ghost use Rattle.typing_rules.specs.Scopes as scopes_of;
 ghost use Rattle.typing_rules.specs.Typing as spec;
 ghost use Rattle.vera_types.specs.OutlineForms as lists;
 
-use crate::blocks::{Owner, PlacedDecl, declared_in, later_scope, scope_of};
+use crate::blocks::{Owner, PlacedDecl, declared_in, scope_of};
 use crate::bodies::item_of;
 use crate::outlines::outline_of;
 use four_state::List;
 use std::alloc::Global;
 use vera_ast::{FrontError, Item, Program, Tree, TypedItem, TypedTree};
-use vera_names::declarations::declarations;
-use vera_names::file_names::{file_scope, one_program};
+use vera_decls::declarations::declarations;
+use vera_decls::file_names::{file_scope, one_program};
+use vera_names::name_sets::variables_later;
 use vera_names::outline::FileOutline;
 use vera_names::scope::{Scope, Scopes};
 
@@ -44,7 +45,7 @@ fn declared_among(
 ) -> Result<(), FrontError>
     ensures { Answers (names.declarations (scopes_of.later (types.names_in main.now.block.decls) ∷ outer.now) items.now) result }
 {
-    let later = later_scope(alloc, main.block.decls.as_slice())?;
+    let later = variables_later(alloc, main.block.decls.as_slice())?;
     declared_behind(alloc, &later, outer, items)
 }
 
@@ -66,7 +67,7 @@ fn typed_items(
 }
 
 /// The items, where the program's variables are in sight already.
-#[tactic(auto, unfolding(vera_steps::proofs::StepsOpened::steps, crate::specs::OutlineForms::items_in))]
+#[tactic(auto, unfolding(vera_names::proofs::StepsOpened::rules, crate::specs::OutlineForms::items_in))]
 fn items_in(
     alloc: Global,
     scopes: &Scopes<'_>,
@@ -94,7 +95,7 @@ fn items_among<'a>(
 }
 
 /// The items of a file with this program, whose variables are numbered in text order and seen everywhere.
-#[tactic(auto, unfolding(vera_steps::proofs::StepsOpened::steps, crate::specs::OutlineForms::items_behind))]
+#[tactic(auto, unfolding(vera_names::proofs::StepsOpened::rules, crate::specs::OutlineForms::items_behind))]
 fn items_behind(
     alloc: Global,
     outer: &Scopes<'_>,
@@ -109,7 +110,7 @@ fn items_behind(
 }
 
 /// The declarations and then the items of a file with this program.
-#[tactic(auto, unfolding(vera_steps::proofs::StepsOpened::steps, crate::specs::OutlineForms::file_items))]
+#[tactic(auto, unfolding(vera_names::proofs::StepsOpened::rules, crate::specs::OutlineForms::file_items))]
 fn file_items(
     alloc: Global,
     outer: &Scopes<'_>,

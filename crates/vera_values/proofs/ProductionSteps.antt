@@ -54,10 +54,6 @@ choice_wrong line c x y e = choice_is line c x y ∙ known_none 32 line (choice_
 
 -- ---- chains
 
-pub no_links : (parents : List (Option ℕ)) (line : ℕ) (left : ValueType) → chained parents line left [] ≡ Ok ([], left)
-unfolding chained
-no_links parents line left = refl
-
 pub none_before : (m : Checked (List TypedLink × ValueType)) → links_before [] m ≡ m
 none_before (Ok all) = refl
 none_before (Err r) = refl

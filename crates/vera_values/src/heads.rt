@@ -108,6 +108,16 @@ pub fn signal_type(signal: TypedSignalName) -> ValueType
     ValueType::Vector(VectorType::Bits(signal.width))
 }
 
+/// The expression of a value that may be missing.
+pub fn expr_or_missing(value: Option<Typed>) -> Option<TypedExpr>
+    ensures { result ≡ spec.expr_or_missing value }
+{
+    match value {
+        Some(value) => Some(value.expr),
+        None => None,
+    }
+}
+
 /// Whether it is an output, which isn't read.
 pub fn is_output(direction: Direction) -> bool
     ensures { result ≡ spec.is_output direction }

@@ -1,7 +1,7 @@
 use Rattle.std.proofs.lemmas.Bool.{ne_eqb, eq-eqb}
 use Rattle.std.proofs.lemmas.Result.{err_from_is_err_and}
 use Rattle.vera_names.proofs.DataTypeSteps.{range_no_high, range_no_low, range_above, range_wide, range_right}
-use Rattle.vera_names.proofs.Items.{refused_as}
+use Rattle.vera_names.proofs.Answering.{refused_as}
 use Rattle.vera_names.proofs.data_types.range.Goals as goal
 
 pub returns-in_err-high : goal.returns-in_err-high

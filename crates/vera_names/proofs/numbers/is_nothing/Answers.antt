@@ -1,5 +1,5 @@
 use Rattle.four_state.specs.declared.bit.Bit3.TheVariants as bit3
-use Rattle.vera_names.proofs.InterfaceSteps.{nothing_by_logic}
+use Rattle.vera_names.proofs.Ones.{nothing_by_logic}
 use Rattle.vera_names.proofs.numbers.is_nothing.Goals as goal
 
 pub returns-in-One : goal.returns-in-One

@@ -1,6 +1,6 @@
 use Rattle.std.proofs.Common.{◌≡◌, drop}
 use Rattle.typing_rules.specs.Checked.{each}
-use Rattle.vera_steps.specs.SimpleForms.{behind}
+use Rattle.vera_names.specs.Lists.{behind}
 use Rattle.typing_rules.specs.Waits.{term}
 use Rattle.vera_steps.proofs.waits.terms.Given as goal
 

@@ -3,7 +3,7 @@ use Rattle.std.specs.Prelude.{Err}
 use Rattle.typing_rules.specs.Answers.{Answers}
 use Rattle.typing_rules.specs.Checked.{each}
 use Rattle.typing_rules.specs.Blocks.{declared_variable}
-use Rattle.vera_steps.proofs.StmtSteps.{each_stops, each_goes, each_ends}
+use Rattle.vera_names.proofs.Items.{each_stops, each_goes, each_ends}
 use Rattle.vera_types.proofs.blocks.declared_variables.Goals as goal
 
 pub returns-in_err-declared_variable : goal.returns-in_err-declared_variable

@@ -3,7 +3,7 @@ use Rattle.std.specs.Prelude.{Err}
 use Rattle.typing_rules.specs.Answers.{Answers}
 use Rattle.typing_rules.specs.Checked.{each}
 use Rattle.typing_rules.specs.Blocks.{typed_decl, typed_decls}
-use Rattle.vera_steps.proofs.StmtSteps.{each_stops, each_goes, each_ends}
+use Rattle.vera_names.proofs.Items.{each_stops, each_goes, each_ends}
 use Rattle.vera_types.proofs.blocks.typed_decls.Goals as goal
 
 pub returns-in_err-typed_decl : goal.returns-in_err-typed_decl

@@ -1,7 +1,7 @@
 use Rattle.std.proofs.Common.{◌≡◌, drop}
 use Rattle.typing_rules.specs.Blocks.{typed_decl}
 use Rattle.typing_rules.specs.Checked.{each}
-use Rattle.vera_steps.specs.SimpleForms.{behind}
+use Rattle.vera_names.specs.Lists.{behind}
 use Rattle.vera_types.proofs.blocks.typed_decls.Given as goal
 
 abbrev pub invariant-loop-decl : goal.invariant-loop-decl

@@ -1,7 +1,7 @@
 use Rattle.std.proofs.Common.{◌≡◌, drop}
 use Rattle.typing_rules.specs.Checked.{each}
 use Rattle.typing_rules.specs.Typing.{expected}
-use Rattle.vera_steps.specs.SimpleForms.{behind}
+use Rattle.vera_names.specs.Lists.{behind}
 use Rattle.vera_types.proofs.outlines.all_expected.Given as goal
 
 abbrev pub invariant-loop-parameter : goal.invariant-loop-parameter

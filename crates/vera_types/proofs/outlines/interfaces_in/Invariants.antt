@@ -1,6 +1,6 @@
 use Rattle.std.proofs.Common.{◌≡◌, drop}
 use Rattle.typing_rules.specs.Typing.{interfaces_in}
-use Rattle.vera_steps.specs.SimpleForms.{behind}
+use Rattle.vera_names.specs.Lists.{behind}
 use Rattle.vera_types.proofs.outlines.interfaces_in.Given as goal
 
 abbrev pub invariant-loop-item : goal.invariant-loop-item

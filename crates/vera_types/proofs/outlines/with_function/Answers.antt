@@ -2,7 +2,7 @@ use Rattle.std.proofs.Common.{◌∷◌, rules}
 use Rattle.std.specs.Prelude.{Err}
 use Rattle.typing_rules.specs.Answers.{Answers}
 use Rattle.typing_rules.specs.Typing.{functions_in}
-use Rattle.vera_steps.specs.SimpleForms.{behind}
+use Rattle.vera_names.specs.Lists.{behind}
 use Rattle.vera_types.proofs.OutlineSteps.{function_goes_at, function_stops_at}
 use Rattle.vera_types.proofs.outlines.with_function.Goals as goal
 

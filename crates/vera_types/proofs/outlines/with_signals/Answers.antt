@@ -2,7 +2,7 @@ use Rattle.std.proofs.Common.{◌≡◌, ◌+◌, ◌∙◌, ap, length, rules, 
 use Rattle.std.specs.Prelude.{Err}
 use Rattle.typing_rules.specs.Answers.{Answers}
 use Rattle.typing_rules.specs.declared.names.KnownSignal.{KnownSignal}
-use Rattle.vera_steps.specs.SimpleForms.{behind}
+use Rattle.vera_names.specs.Lists.{behind}
 use Rattle.vera_types.specs.OutlineForms.{signals_and}
 use Rattle.vera_types.proofs.OutlineSteps.{signals_go, signals_stop}
 use Rattle.vera_types.proofs.outlines.with_signals.Goals as goal

@@ -2,7 +2,7 @@ use Rattle.std.proofs.Common.{◌∷◌, rules}
 use Rattle.std.specs.Prelude.{Err}
 use Rattle.typing_rules.specs.Answers.{Answers}
 use Rattle.typing_rules.specs.Typing.{tasks_in}
-use Rattle.vera_steps.specs.SimpleForms.{behind}
+use Rattle.vera_names.specs.Lists.{behind}
 use Rattle.vera_types.proofs.OutlineSteps.{task_goes_at, task_stops_at}
 use Rattle.vera_types.proofs.outlines.with_task.Goals as goal
 

@@ -9,7 +9,7 @@ use Rattle.typing_rules.specs.Checked.{Checked, each}
 use Rattle.typing_rules.specs.Statements.{walk_stmt}
 use Rattle.vera_types.specs.StmtForms.{arm, case_stmt}
 use Rattle.vera_types.proofs.StmtWalks.{arm_answers, break_walks, call_walks, case_walks, continue_walks, drive_walks, edge_walks, empty_walks, expect_walks, for_walks, fork_walks, if_walks, repeat_walks, return_walks, step_walks, void_walks, while_walks}
-use Rattle.vera_steps.proofs.StmtSteps.{each_stops, each_goes, each_ends}
+use Rattle.vera_names.proofs.Items.{each_stops, each_goes, each_ends}
 use Rattle.vera_types.proofs.statements.+walk.Goals as goal
 
 pub walk_stmts-returns-in_err-walk_stmt : goal.walk_stmts-returns-in_err-walk_stmt

@@ -1,7 +1,7 @@
 use Rattle.std.proofs.Common.{◌≡◌, drop}
 use Rattle.typing_rules.specs.Checked.{each}
 use Rattle.typing_rules.specs.Statements.{walk_stmt}
-use Rattle.vera_steps.specs.SimpleForms.{behind}
+use Rattle.vera_names.specs.Lists.{behind}
 use Rattle.vera_types.specs.StmtForms.{arm}
 use Rattle.vera_types.proofs.statements.+walk.Given as goal
 

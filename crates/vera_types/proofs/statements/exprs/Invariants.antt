@@ -1,7 +1,7 @@
 use Rattle.std.proofs.Common.{◌≡◌, drop}
 use Rattle.typing_rules.specs.Checked.{each}
 use Rattle.typing_rules.specs.Expressions.{expr}
-use Rattle.vera_steps.specs.SimpleForms.{behind}
+use Rattle.vera_names.specs.Lists.{behind}
 use Rattle.vera_types.proofs.statements.exprs.Given as goal
 
 abbrev pub invariant-loop-value : goal.invariant-loop-value

@@ -4,7 +4,7 @@ use Rattle.std.specs.Vec.Iter.{into_iter_items}
 use Rattle.typing_rules.specs.Answers.{Answers}
 use Rattle.typing_rules.specs.Checked.{each}
 use Rattle.vera_types.specs.StmtForms.{label}
-use Rattle.vera_steps.proofs.StmtSteps.{taken_goes, taken_stops, taken_ends}
+use Rattle.vera_names.proofs.Items.{taken_goes, taken_stops, taken_ends}
 use Rattle.vera_types.proofs.statements.labels.Goals as goal
 
 pub returns-in_err-label : goal.returns-in_err-label

@@ -1,6 +1,0 @@
-use Rattle.std.proofs.Common.{◌≡◌}
-use Rattle.blif_read.specs.Reading.{parts_of}
-use Rattle.blif_device.proofs.tests.after.Given as goal
-
-abbrev pub invariant-loop-word : goal.invariant-loop-word
-invariant-loop-word g l = l.device.netlist ≡ parts_of l.netlist

@@ -1,0 +1,5 @@
+pub mod OneOf
+pub mod ListTurns
+pub mod Samples
+pub mod TokenLaws
+pub mod ListLaws

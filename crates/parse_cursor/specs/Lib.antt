@@ -1,0 +1,5 @@
+pub mod Tokens
+pub mod TokenReading
+pub mod Nesting
+pub mod Lists
+pub mod ListReading

@@ -1,0 +1,4 @@
+pub mod Sets
+pub mod Operators
+pub mod Expressions
+pub mod ExpressionReading

@@ -1,0 +1,9 @@
+pub mod Declarations
+pub mod DeclarationReading
+pub mod Parts
+pub mod PartReading
+pub mod Simple
+pub mod SimpleReading
+pub mod Statements
+pub mod StatementReading
+pub mod StatementSets

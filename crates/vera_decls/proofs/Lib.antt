@@ -1,0 +1,12 @@
+mod BlockViews
+mod BlockWalks
+mod Families
+mod FileSteps
+mod Going
+mod InterfaceSteps
+mod ItemParts
+mod ItemWalks
+mod NameLines
+mod PartSteps
+mod VariableSteps
+mod WalkParts

@@ -1,9 +1,0 @@
-use Rattle.std.proofs.Common.{◌≡◌, length}
-use Rattle.vera_parse.specs.TokenReading.{meaning_of}
-use Rattle.vera_parse.proofs.cursor.meaning_of.Given as goal
-
-abbrev pub invariant-table : goal.invariant-table
-invariant-table g l = meaning_of l.rest l.c ≡ meaning_of l.table l.c
-
-abbrev pub decreases-table : goal.decreases-table
-decreases-table g l = length l.rest

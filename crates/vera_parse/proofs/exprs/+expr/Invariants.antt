@@ -1,7 +1,0 @@
-use Rattle.vera_parse.proofs.exprs.+expr.Given as goal
-
-abbrev pub decreases-expr : goal.decreases-expr
-decreases-expr l = l.depth
-
-abbrev pub decreases-unary : goal.decreases-unary
-decreases-unary l = l.depth

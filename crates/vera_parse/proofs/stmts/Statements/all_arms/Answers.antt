@@ -1,8 +1,0 @@
-use Rattle.std.proofs.Common.{rules}
-use Rattle.vera_parse.specs.ExpressionReading.{expr}
-use Rattle.vera_parse.specs.StatementReading.{stmt, arm, all_arms}
-use Rattle.vera_parse.proofs.stmts.Statements.all_arms.Goals as goal
-
-pub returns : goal.returns
-unfolding all_arms
-returns g c = c.many.ensures (arm (expr c.args.self.now.depth) (stmt c.args.self.now.depth)) (record { callable = λ old. search rules; reads = λ old new r post. search rules })
