@@ -2,7 +2,8 @@
 
 use crate::show::Out;
 use crate::show::items::tree;
-use crate::source::expanded;
+use crate::show::tokens::{last_token, token_list};
+use crate::source::source_of;
 use four_state::NoMemory;
 use not_built::{not_built, not_checked};
 use std::alloc::{AllocError, Global};
@@ -25,18 +26,25 @@ fn written(alloc: Global, line: &[u8]) -> Result<Vec<u8>, NoMemory> {
         out.put(b"?\n")?;
         return Ok(out.text);
     }
-    let feed = if line[0] == b'.' { b' ' } else { b'\t' };
-    let source = expanded(alloc, &line[2..], feed)?;
+    let kind = line[0];
+    let source = source_of(alloc, kind, &line[2..])?;
     match lexed(alloc, source.as_slice()) {
         Err(error) => refusal(&mut out, error)?,
-        Ok(tokens) => match line[0] {
-            b'<' => fronts(&mut out, tokens.as_slice())?,
-            b'?' => checked(&mut out, tokens.as_slice())?,
-            b'!' => built(&mut out, tokens.as_slice())?,
-            _ => parsed(&mut out, tokens.as_slice())?,
-        },
+        Ok(tokens) => answered(&mut out, kind, tokens.as_slice())?,
     }
     Ok(out.text)
+}
+
+/// The answer to these tokens in a line of this kind.
+fn answered(out: &mut Out, kind: u8, tokens: &[Token]) -> Result<(), NoMemory> {
+    match kind {
+        b';' => token_list(out, tokens),
+        b'#' => last_token(out, tokens),
+        b'<' => fronts(out, tokens),
+        b'?' => checked(out, tokens),
+        b'!' => built(out, tokens),
+        _ => parsed(out, tokens),
+    }
 }
 
 /// The tokens of a source that isn't over the lexer's bound.

@@ -1,4 +1,4 @@
-//! A tree's text, compact, with the line of each node before it.
+//! The text of a tree or of tokens, compact, with the line of each node or token before it.
 
 pub mod coverage;
 pub mod declarations;
@@ -6,6 +6,7 @@ pub mod expressions;
 pub mod items;
 pub mod parts;
 pub mod statements;
+pub mod tokens;
 
 use four_state::{NoMemory, Text};
 use std::alloc::Global;

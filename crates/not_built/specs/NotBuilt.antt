@@ -1,8 +1,8 @@
 -- The constructs of a testbench that aren't built yet. Built are those of the form that testbenches have today: an
 -- interface with all its signals and a program with `integer` variables, blocks, assignments, drives, `while`, clock edges
 -- and `printf("%0d\n", ..)`, over sums and comparisons of names and decimal numbers. How many of them there are, in which
--- order, and how deep they nest is no construct. Neither is a signal's kind or its skew, whichever it is; but the two
--- bounds of its range are expressions, and what isn't built in an expression counts there too.
+-- order, and how deep they nest is no construct. Neither is a signal's kind, whichever it is; but the two bounds of its
+-- range are expressions, and what isn't built in an expression counts there too, and so does a based literal as its skew.
 use Rattle.std.specs.Prelude.{ℕ, List, [], ◌∷◌, Option}
 use Rattle.vera_ast.specs.declared.tree.items.Item.{Item}
 use Rattle.vera_ast.specs.declared.tree.items.Item.TheVariants as item

@@ -66,8 +66,8 @@ pub fn is_variable(post: &Postfix) -> bool
     is_name(&post.primary.form) && is_plain(post.suffixes.as_slice())
 }
 
-/// A number literal that begins on a line: a based one isn't built.
-fn in_number(line: u32, number: &Number) -> Option<u32>
+/// A number literal in a part that begins on a line: a based one isn't built.
+pub fn in_number(line: u32, number: &Number) -> Option<u32>
     ensures { result ≡ first (spec.number_lines line number.now) }
 {
     if number.is_decimal { None } else { Some(line) }
