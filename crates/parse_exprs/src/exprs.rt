@@ -19,25 +19,27 @@ use parse_cursor::cursor::Cursor;
 use sqlite_items::Boxed;
 use std::alloc::{AllocError, Global};
 use vera_ast::codes::{COLON, QUESTION};
-use vera_ast::{Conditional, Expr, Postfix, Unary, UnaryOperator};
+use vera_ast::{Conditional, Expr, Postfix, Unary, UnaryOperator, with};
 
 /// A condition's expression alone, or with its two branches.
 fn chosen(
     alloc: Global,
     condition: Expr,
-    branches: Option<(Expr, Expr)>,
+    branches: Option<(Boxed<Expr>, Boxed<Expr>)>,
 ) -> Result<Expr, AllocError>
     ensures { IfOk result (λ x. x ≡ grammar.chosen condition branches) }
 {
     match branches {
         None => Ok(condition),
-        Some((when_true, when_false)) => {
+        Some(branches) => {
             let line = condition.line();
+            let (branches, condition) = with(branches, Boxed::new(alloc, condition))?;
+            let (when_true, when_false) = branches;
             Ok(Expr::Conditional(Conditional {
                 line,
-                condition: Boxed::new(alloc, condition)?,
-                when_true: Boxed::new(alloc, when_true)?,
-                when_false: Boxed::new(alloc, when_false)?,
+                condition,
+                when_true,
+                when_false,
             }))
         }
     }
@@ -212,19 +214,18 @@ impl<
     }
 
     #[tactic(auto, unfolding(crate::specs::ExpressionReading::branches, grammar_laws::specs::Readers::and_then))]
-    fn branches(&self, tokens: &mut Cursor<'_>) -> Result<(Expr, Expr), Fault>
+    fn branches(&self, tokens: &mut Cursor<'_>) -> Result<(Boxed<Expr>, Boxed<Expr>), Fault>
         requires { Nests (reading.expr self.now.depth) self.now.depth (F.pre self.now.expr) (F.post self.now.expr) }
         ensures { Reads (reading.branches (reading.expr self.now.depth) (reading.unary self.now.depth) tokens.old.rest.now) result tokens.new.rest.now }
     {
         tokens.word(QUESTION)?;
-        let when_true = self.expr(tokens)?;
-        tokens.word(COLON)?;
-        let when_false = self.expr(tokens)?;
-        Ok((when_true, when_false))
+        let when_true = self.boxed(tokens)?;
+        let (when_true, _) = with(when_true, tokens.word(COLON))?;
+        with(when_true, self.boxed(tokens))
     }
 
     #[tactic(auto, unfolding(grammar_laws::specs::Readers::either, grammar_laws::specs::Readers::and_then))]
-    fn question(&self, tokens: &mut Cursor<'_>) -> Result<Option<(Expr, Expr)>, Fault>
+    fn question(&self, tokens: &mut Cursor<'_>) -> Result<Option<(Boxed<Expr>, Boxed<Expr>)>, Fault>
         requires { Nests (reading.expr self.now.depth) self.now.depth (F.pre self.now.expr) (F.post self.now.expr) }
         ensures { Reads (maybe (code.QUESTION ∷ []) (reading.branches (reading.expr self.now.depth) (reading.unary self.now.depth)) tokens.old.rest.now) result tokens.new.rest.now }
     {
@@ -242,7 +243,7 @@ impl<
         ensures { Reads (reading.whole (reading.expr self.now.depth) (reading.unary self.now.depth) tokens.old.rest.now) result tokens.new.rest.now }
     {
         let condition = self.logical_or(tokens)?;
-        let branches = self.question(tokens)?;
+        let (condition, branches) = with(condition, self.question(tokens))?;
         Ok(chosen(self.alloc, condition, branches)?)
     }
 }

@@ -6,6 +6,7 @@ ghost use Rattle.parse_cursor.specs.Nesting.{Nests};
 
 use grammar_laws::Fault;
 use parse_cursor::cursor::Cursor;
+use sqlite_items::Boxed;
 use std::alloc::Global;
 use vera_ast::Expr;
 
@@ -28,6 +29,15 @@ impl<
         ensures { Reads (reading.expr self.now.depth tokens.old.rest.now) result tokens.new.rest.now }
     {
         (self.expr)(self.alloc, tokens, self.depth)
+    }
+
+    /// An expression, boxed for the tree that it becomes a part of.
+    #[tactic(auto)]
+    pub fn boxed(&self, tokens: &mut Cursor<'_>) -> Result<Boxed<Expr>, Fault>
+        requires { Nests (reading.expr self.now.depth) self.now.depth (F.pre self.now.expr) (F.post self.now.expr) }
+        ensures { Reads (reading.expr self.now.depth tokens.old.rest.now) result tokens.new.rest.now }
+    {
+        Ok(Boxed::new(self.alloc, self.expr(tokens)?)?)
     }
 
     pub fn unary(&self, tokens: &mut Cursor<'_>) -> Result<Expr, Fault>

@@ -18,7 +18,7 @@ use vera_ast::codes::{
     MINUS, NAND, NOR, NOT, NOT_EQUAL, OR, OR_OR, PERCENT, PLUS, SHIFT_LEFT, SHIFT_RIGHT, SLASH,
     STAR, TILDE, WILD_EQUAL, WILD_NOT_EQUAL, XNOR, XOR,
 };
-use vera_ast::{ChainOperator, Expr, Link, UnaryOperator};
+use vera_ast::{ChainOperator, Expr, Link, UnaryOperator, with};
 
 /// The operators that stand before their operand.
 pub const UNARY: [(u8, UnaryOperator); 10] = [
@@ -141,6 +141,6 @@ pub fn level<F: Fn(&mut Cursor<'_>) -> Result<Expr, Fault>>(
     ensures { (p : Parser Token Expr) → Follows p (F.pre operand) (F.post operand) → Reads (reading.level operators.now p tokens.old.rest.now) result tokens.new.rest.now }
 {
     let first = operand(tokens)?;
-    let links = links(alloc, tokens, operators, &operand)?;
+    let (first, links) = with(first, links(alloc, tokens, operators, &operand))?;
     Ok(chained(alloc, first, links)?)
 }

@@ -1,6 +1,9 @@
 //! Postfix expressions.
 
-ghost use Rattle.std.specs.Prelude.{◌≡◌, IfOk};
+ghost use Rattle.std.specs.Prelude.{◌≡◌, [], ◌∷◌};
+ghost use Rattle.vera_ast.specs.declared.codes.TheConstants as code;
+ghost use Rattle.parse_cursor.specs.TokenReading as tokens_of;
+ghost use Rattle.parse_exprs.specs.Sets.{first_suffix};
 ghost use Rattle.grammar_laws.specs.Readers.{Reads};
 ghost use Rattle.parse_exprs.specs.Expressions as grammar;
 ghost use Rattle.parse_exprs.specs.ExpressionReading as reading;
@@ -10,21 +13,21 @@ use crate::grammar::Grammar;
 use crate::sets::FIRST_EXPR;
 use grammar_laws::Fault;
 use parse_cursor::cursor::Cursor;
-use parse_cursor::turns::{many, maybe};
+use parse_cursor::turns::many;
 use sqlite_items::{Boxed, Items};
-use std::alloc::{AllocError, Global};
+use std::alloc::Global;
 use vera_ast::codes::{
     COLON, DOT, LEFT_BRACKET, LEFT_PARENTHESIS, NAME, NEW, RIGHT_BRACKET, RIGHT_PARENTHESIS,
 };
-use vera_ast::{Expr, Postfix, Primary, Suffix};
+use vera_ast::{Expr, Postfix, Primary, Suffix, with};
 
 /// What stands in brackets behind a value.
-fn bracketed(alloc: Global, at: Expr, low: Option<Expr>) -> Result<Suffix, AllocError>
-    ensures { IfOk result (λ suffix. suffix ≡ grammar.bracketed at low) }
+fn bracketed(at: Boxed<Expr>, low: Option<Boxed<Expr>>) -> Suffix
+    ensures { result ≡ grammar.bracketed at low }
 {
     match low {
-        None => Ok(Suffix::Index(Boxed::new(alloc, at)?)),
-        Some(low) => Ok(Suffix::Bits(Boxed::new(alloc, at)?, Boxed::new(alloc, low)?)),
+        None => Suffix::Index(at),
+        Some(low) => Suffix::Bits(at, low),
     }
 }
 
@@ -61,12 +64,24 @@ impl<
     }
 
     #[tactic(auto, unfolding(crate::specs::ExpressionReading::low_bit, grammar_laws::specs::Readers::and_then))]
-    fn low_bit(&self, tokens: &mut Cursor<'_>) -> Result<Expr, Fault>
+    fn low_bit(&self, tokens: &mut Cursor<'_>) -> Result<Boxed<Expr>, Fault>
         requires { Nests (reading.expr self.now.depth) self.now.depth (F.pre self.now.expr) (F.post self.now.expr) }
         ensures { Reads (reading.low_bit (reading.expr self.now.depth) (reading.unary self.now.depth) tokens.old.rest.now) result tokens.new.rest.now }
     {
         tokens.word(COLON)?;
-        self.expr(tokens)
+        self.boxed(tokens)
+    }
+
+    #[tactic(auto, unfolding(grammar_laws::specs::Readers::either, grammar_laws::specs::Readers::and_then))]
+    fn low(&self, tokens: &mut Cursor<'_>) -> Result<Option<Boxed<Expr>>, Fault>
+        requires { Nests (reading.expr self.now.depth) self.now.depth (F.pre self.now.expr) (F.post self.now.expr) }
+        ensures { Reads (tokens_of.maybe (code.COLON ∷ []) (reading.low_bit (reading.expr self.now.depth) (reading.unary self.now.depth)) tokens.old.rest.now) result tokens.new.rest.now }
+    {
+        if !tokens.begins(&[COLON]) {
+            return Ok(None);
+        }
+        let low = self.low_bit(tokens)?;
+        Ok(Some(low))
     }
 
     #[tactic(auto, unfolding(crate::specs::ExpressionReading::bits, grammar_laws::specs::Readers::and_then))]
@@ -75,14 +90,10 @@ impl<
         ensures { Reads (reading.bits (reading.expr self.now.depth) (reading.unary self.now.depth) tokens.old.rest.now) result tokens.new.rest.now }
     {
         tokens.word(LEFT_BRACKET)?;
-        let at = self.expr(tokens)?;
-        let low = maybe(
-            tokens,
-            &[COLON],
-            |tokens: &mut Cursor<'_>| self.low_bit(tokens),
-        )?;
-        tokens.word(RIGHT_BRACKET)?;
-        Ok(bracketed(self.alloc, at, low)?)
+        let at = self.boxed(tokens)?;
+        let (at, low) = with(at, self.low(tokens))?;
+        let (suffix, _) = with(bracketed(at, low), tokens.word(RIGHT_BRACKET))?;
+        Ok(suffix)
     }
 
     #[tactic(auto, unfolding(crate::specs::ExpressionReading::arguments, grammar_laws::specs::Readers::either))]
@@ -104,7 +115,7 @@ impl<
     {
         tokens.word(LEFT_PARENTHESIS)?;
         let arguments = self.arguments(tokens)?;
-        tokens.word(RIGHT_PARENTHESIS)?;
+        let (arguments, _) = with(arguments, tokens.word(RIGHT_PARENTHESIS))?;
         Ok(Suffix::Call(arguments))
     }
 
@@ -122,17 +133,25 @@ impl<
         }
     }
 
+    #[tactic(auto)]
+    fn suffixes(&self, tokens: &mut Cursor<'_>) -> Result<Items<Suffix>, Fault>
+        requires { Nests (reading.expr self.now.depth) self.now.depth (F.pre self.now.expr) (F.post self.now.expr) }
+        ensures { Reads (tokens_of.many first_suffix (reading.suffix (reading.expr self.now.depth) (reading.unary self.now.depth)) tokens.old.rest.now) result tokens.new.rest.now }
+    {
+        many(
+            self.alloc,
+            tokens,
+            &[DOT, LEFT_BRACKET, LEFT_PARENTHESIS],
+            |tokens: &mut Cursor<'_>| self.suffix(tokens),
+        )
+    }
+
     #[tactic(auto, unfolding(crate::specs::ExpressionReading::suffixed, grammar_laws::specs::Readers::and_then))]
     fn suffixed(&self, tokens: &mut Cursor<'_>, primary: Primary) -> Result<Postfix, Fault>
         requires { Nests (reading.expr self.now.depth) self.now.depth (F.pre self.now.expr) (F.post self.now.expr) }
         ensures { Reads (reading.suffixed (reading.expr self.now.depth) (reading.unary self.now.depth) primary tokens.old.rest.now) result tokens.new.rest.now }
     {
-        let suffixes = many(
-            self.alloc,
-            tokens,
-            &[DOT, LEFT_BRACKET, LEFT_PARENTHESIS],
-            |tokens: &mut Cursor<'_>| self.suffix(tokens),
-        )?;
+        let (primary, suffixes) = with(primary, self.suffixes(tokens))?;
         Ok(Postfix {
             line: primary.line,
             primary,

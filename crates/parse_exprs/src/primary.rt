@@ -3,7 +3,8 @@
 ghost use Rattle.std.specs.Prelude.{◌≡◌, [], ◌∷◌, Ok};
 ghost use Rattle.grammar_laws.specs.Readers.{Reads, and_then};
 ghost use Rattle.parse_exprs.specs.Expressions.{primary_at};
-ghost use Rattle.parse_cursor.specs.TokenReading.{word};
+ghost use Rattle.parse_cursor.specs.TokenReading as tokens_of;
+ghost use Rattle.vera_ast.specs.declared.codes.TheConstants as code;
 ghost use Rattle.parse_exprs.specs.ExpressionReading as reading;
 ghost use Rattle.parse_cursor.specs.Nesting.{Nests};
 
@@ -19,14 +20,14 @@ use vera_ast::codes::{
     COMMA, LEFT_BRACE, LEFT_PARENTHESIS, NEW, NULL, NUMBER, RIGHT_BRACE, RIGHT_PARENTHESIS,
     STRING_LITERAL, SUPER, THIS,
 };
-use vera_ast::{Expr, Primary, PrimaryForm};
+use vera_ast::{Expr, Primary, PrimaryForm, with};
 
 /// A primary expression of one word.
 #[tactic(auto, unfolding(grammar_laws::specs::Readers::and_then))]
-fn fixed(tokens: &mut Cursor<'_>, code: u8, form: PrimaryForm) -> Result<Primary, Fault>
-    ensures { Reads (and_then (word code tokens.old.rest.now) (λ line rest. Ok (primary_at form line, rest))) result tokens.new.rest.now }
+fn fixed(tokens: &mut Cursor<'_>, keyword: u8, form: PrimaryForm) -> Result<Primary, Fault>
+    ensures { Reads (and_then (tokens_of.word keyword tokens.old.rest.now) (λ line rest. Ok (primary_at form line, rest))) result tokens.new.rest.now }
 {
-    let line = tokens.word(code)?;
+    let (form, line) = with(form, tokens.word(keyword))?;
     Ok(Primary { line, form })
 }
 
@@ -73,11 +74,11 @@ impl<
         ensures { Reads (reading.group (reading.expr self.now.depth) (reading.unary self.now.depth) tokens.old.rest.now) result tokens.new.rest.now }
     {
         let line = tokens.word(LEFT_PARENTHESIS)?;
-        let inner = self.expr(tokens)?;
-        tokens.word(RIGHT_PARENTHESIS)?;
+        let inner = self.boxed(tokens)?;
+        let (inner, _) = with(inner, tokens.word(RIGHT_PARENTHESIS))?;
         Ok(Primary {
             line,
-            form: PrimaryForm::Parentheses(Boxed::new(self.alloc, inner)?),
+            form: PrimaryForm::Parentheses(inner),
         })
     }
 
@@ -114,18 +115,27 @@ impl<
         self.expr(tokens)
     }
 
+    /// `{ "," expr }`.
+    #[tactic(auto)]
+    fn others(&self, tokens: &mut Cursor<'_>) -> Result<Items<Expr>, Fault>
+        requires { Nests (reading.expr self.now.depth) self.now.depth (F.pre self.now.expr) (F.post self.now.expr) }
+        ensures { Reads (tokens_of.many (code.COMMA ∷ []) (reading.further (reading.expr self.now.depth) (reading.unary self.now.depth)) tokens.old.rest.now) result tokens.new.rest.now }
+    {
+        many(
+            self.alloc,
+            tokens,
+            &[COMMA],
+            |tokens: &mut Cursor<'_>| self.further(tokens),
+        )
+    }
+
     #[tactic(auto, unfolding(crate::specs::ExpressionReading::exprs, grammar_laws::specs::Readers::and_then))]
     pub fn exprs(&self, tokens: &mut Cursor<'_>) -> Result<Items<Expr>, Fault>
         requires { Nests (reading.expr self.now.depth) self.now.depth (F.pre self.now.expr) (F.post self.now.expr) }
         ensures { Reads (reading.exprs (reading.expr self.now.depth) (reading.unary self.now.depth) tokens.old.rest.now) result tokens.new.rest.now }
     {
         let first = self.expr(tokens)?;
-        let more = many(
-            self.alloc,
-            tokens,
-            &[COMMA],
-            |tokens: &mut Cursor<'_>| self.further(tokens),
-        )?;
+        let (first, more) = with(first, self.others(tokens))?;
         Ok(items_from(self.alloc, first, more)?)
     }
 
@@ -139,16 +149,12 @@ impl<
         requires { Nests (reading.expr self.now.depth) self.now.depth (F.pre self.now.expr) (F.post self.now.expr) }
         ensures { Reads (reading.concatenated (reading.expr self.now.depth) (reading.unary self.now.depth) line first tokens.old.rest.now) result tokens.new.rest.now }
     {
-        let more = many(
-            self.alloc,
-            tokens,
-            &[COMMA],
-            |tokens: &mut Cursor<'_>| self.further(tokens),
-        )?;
-        tokens.word(RIGHT_BRACE)?;
+        let (first, more) = with(first, self.others(tokens))?;
+        let parts = items_from(self.alloc, first, more)?;
+        let (parts, _) = with(parts, tokens.word(RIGHT_BRACE))?;
         Ok(Primary {
             line,
-            form: PrimaryForm::Concatenation(items_from(self.alloc, first, more)?),
+            form: PrimaryForm::Concatenation(parts),
         })
     }
 
@@ -157,14 +163,13 @@ impl<
         requires { Nests (reading.expr self.now.depth) self.now.depth (F.pre self.now.expr) (F.post self.now.expr) }
         ensures { Reads (reading.replicated (reading.expr self.now.depth) (reading.unary self.now.depth) line count tokens.old.rest.now) result tokens.new.rest.now }
     {
-        tokens.word(LEFT_BRACE)?;
-        let parts = self.exprs(tokens)?;
-        tokens.word(RIGHT_BRACE)?;
-        tokens.word(RIGHT_BRACE)?;
-        Ok(Primary {
-            line,
-            form: PrimaryForm::Replication(Boxed::new(self.alloc, count)?, parts),
-        })
+        let count = Boxed::new(self.alloc, count)?;
+        let (count, _) = with(count, tokens.word(LEFT_BRACE))?;
+        let (count, parts) = with(count, self.exprs(tokens))?;
+        let form = PrimaryForm::Replication(count, parts);
+        let (form, _) = with(form, tokens.word(RIGHT_BRACE))?;
+        let (form, _) = with(form, tokens.word(RIGHT_BRACE))?;
+        Ok(Primary { line, form })
     }
 
     #[tactic(auto, unfolding(crate::specs::ExpressionReading::braces, grammar_laws::specs::Readers::and_then, grammar_laws::specs::Readers::either))]

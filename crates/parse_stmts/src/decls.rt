@@ -13,14 +13,14 @@ use four_state::List;
 use grammar_laws::Fault;
 use parse_cursor::cursor::Cursor;
 use parse_cursor::trees::list_from;
-use parse_cursor::turns::{list, maybe};
+use parse_cursor::turns::list;
 use parse_exprs::exprs::expr;
 use std::alloc::Global;
 use vera_ast::codes::{
     BIT, COLON, COMMA, EQUALS, EVENT, INTEGER, LEFT_BRACKET, REG, RIGHT_BRACKET, SEMICOLON, STRING,
     VAR,
 };
-use vera_ast::{Bracket, DataType, Decl, Expr, Parameter, Range, TypeForm, Variable};
+use vera_ast::{Bracket, DataType, Decl, Expr, Parameter, Range, TypeForm, Variable, with};
 
 /// What stands in brackets behind a variable's name.
 fn bracket_of(size: Option<Expr>) -> Bracket
@@ -44,15 +44,31 @@ fn first_line(mark: Option<u32>, other: u32) -> u32
 
 /// `"[" expr ":" expr "]"`.
 #[tactic(auto, unfolding(crate::specs::DeclarationReading::range, grammar_laws::specs::Readers::and_then))]
-pub fn range(alloc: Global, tokens: &mut Cursor<'_>, depth: usize) -> Result<Range, Fault>
+fn range(alloc: Global, tokens: &mut Cursor<'_>, depth: usize) -> Result<Range, Fault>
     ensures { Reads (reading.range (expr_reading.expr depth) tokens.old.rest.now) result tokens.new.rest.now }
 {
     let line = tokens.word(LEFT_BRACKET)?;
     let high = expr(alloc, tokens, depth)?;
-    tokens.word(COLON)?;
-    let low = expr(alloc, tokens, depth)?;
-    tokens.word(RIGHT_BRACKET)?;
-    Ok(Range { line, high, low })
+    let (high, _) = with(high, tokens.word(COLON))?;
+    let (high, low) = with(high, expr(alloc, tokens, depth))?;
+    let (range, _) = with(Range { line, high, low }, tokens.word(RIGHT_BRACKET))?;
+    Ok(range)
+}
+
+/// `[ range ]`.
+#[tactic(auto, unfolding(grammar_laws::specs::Readers::either, grammar_laws::specs::Readers::and_then))]
+pub fn any_range(
+    alloc: Global,
+    tokens: &mut Cursor<'_>,
+    depth: usize,
+) -> Result<Option<Range>, Fault>
+    ensures { Reads (reading_of.maybe (code.LEFT_BRACKET ∷ []) (reading.range (expr_reading.expr depth)) tokens.old.rest.now) result tokens.new.rest.now }
+{
+    if !tokens.begins(&[LEFT_BRACKET]) {
+        return Ok(None);
+    }
+    let range = range(alloc, tokens, depth)?;
+    Ok(Some(range))
 }
 
 #[tactic(auto, unfolding(crate::specs::DeclarationReading::bit, grammar_laws::specs::Readers::and_then))]
@@ -60,11 +76,7 @@ fn bit(alloc: Global, tokens: &mut Cursor<'_>, depth: usize) -> Result<DataType,
     ensures { Reads (reading.bit (expr_reading.expr depth) tokens.old.rest.now) result tokens.new.rest.now }
 {
     let line = tokens.word(BIT)?;
-    let range = maybe(
-        tokens,
-        &[LEFT_BRACKET],
-        |tokens: &mut Cursor<'_>| range(alloc, tokens, depth),
-    )?;
+    let range = any_range(alloc, tokens, depth)?;
     Ok(DataType {
         line,
         form: TypeForm::Bit(range),
@@ -76,11 +88,7 @@ fn reg(alloc: Global, tokens: &mut Cursor<'_>, depth: usize) -> Result<DataType,
     ensures { Reads (reading.reg (expr_reading.expr depth) tokens.old.rest.now) result tokens.new.rest.now }
 {
     let line = tokens.word(REG)?;
-    let range = maybe(
-        tokens,
-        &[LEFT_BRACKET],
-        |tokens: &mut Cursor<'_>| range(alloc, tokens, depth),
-    )?;
+    let range = any_range(alloc, tokens, depth)?;
     Ok(DataType {
         line,
         form: TypeForm::Reg(range),
@@ -92,7 +100,7 @@ fn reg(alloc: Global, tokens: &mut Cursor<'_>, depth: usize) -> Result<DataType,
 fn fixed(tokens: &mut Cursor<'_>, code: u8, form: TypeForm) -> Result<DataType, Fault>
     ensures { Reads (and_then (word code tokens.old.rest.now) (λ line rest. Ok (grammar.type_at form line, rest))) result tokens.new.rest.now }
 {
-    let line = tokens.word(code)?;
+    let (form, line) = with(form, tokens.word(code))?;
     Ok(DataType { line, form })
 }
 
@@ -133,7 +141,7 @@ fn size(alloc: Global, tokens: &mut Cursor<'_>, depth: usize) -> Result<Expr, Fa
 {
     tokens.word(LEFT_BRACKET)?;
     let size = expr(alloc, tokens, depth)?;
-    tokens.word(RIGHT_BRACKET)?;
+    let (size, _) = with(size, tokens.word(RIGHT_BRACKET))?;
     Ok(size)
 }
 
@@ -145,22 +153,39 @@ fn initial(alloc: Global, tokens: &mut Cursor<'_>, depth: usize) -> Result<Expr,
     expr(alloc, tokens, depth)
 }
 
+/// `[ "[" expr "]" ]`.
+#[tactic(auto, unfolding(grammar_laws::specs::Readers::either, grammar_laws::specs::Readers::and_then))]
+fn any_size(alloc: Global, tokens: &mut Cursor<'_>, depth: usize) -> Result<Option<Expr>, Fault>
+    ensures { Reads (reading_of.maybe (code.LEFT_BRACKET ∷ []) (reading.size (expr_reading.expr depth)) tokens.old.rest.now) result tokens.new.rest.now }
+{
+    if !tokens.begins(&[LEFT_BRACKET]) {
+        return Ok(None);
+    }
+    let size = size(alloc, tokens, depth)?;
+    Ok(Some(size))
+}
+
+/// `[ "=" expr ]`.
+#[tactic(auto, unfolding(grammar_laws::specs::Readers::either, grammar_laws::specs::Readers::and_then))]
+fn any_initial(alloc: Global, tokens: &mut Cursor<'_>, depth: usize) -> Result<Option<Expr>, Fault>
+    ensures { Reads (reading_of.maybe (code.EQUALS ∷ []) (reading.initial (expr_reading.expr depth)) tokens.old.rest.now) result tokens.new.rest.now }
+{
+    if !tokens.begins(&[EQUALS]) {
+        return Ok(None);
+    }
+    let value = initial(alloc, tokens, depth)?;
+    Ok(Some(value))
+}
+
 /// `name [ "[" expr "]" ] [ "=" expr ]`.
 #[tactic(auto, unfolding(crate::specs::DeclarationReading::variable, grammar_laws::specs::Readers::and_then))]
 pub fn variable(alloc: Global, tokens: &mut Cursor<'_>, depth: usize) -> Result<Variable, Fault>
     ensures { Reads (reading.variable (expr_reading.expr depth) tokens.old.rest.now) result tokens.new.rest.now }
 {
     let name = tokens.name(alloc)?;
-    let size = maybe(
-        tokens,
-        &[LEFT_BRACKET],
-        |tokens: &mut Cursor<'_>| size(alloc, tokens, depth),
-    )?;
-    let value = maybe(
-        tokens,
-        &[EQUALS],
-        |tokens: &mut Cursor<'_>| initial(alloc, tokens, depth),
-    )?;
+    let declared = with(name, any_size(alloc, tokens, depth))?;
+    let (declared, value) = with(declared, any_initial(alloc, tokens, depth))?;
+    let (name, size) = declared;
     Ok(Variable {
         line: name.line,
         name: name.text,
@@ -177,17 +202,29 @@ fn further_variable(alloc: Global, tokens: &mut Cursor<'_>, depth: usize) -> Res
     variable(alloc, tokens, depth)
 }
 
+/// `{ "," variable }`.
+#[tactic(auto)]
+fn further_variables(
+    alloc: Global,
+    tokens: &mut Cursor<'_>,
+    depth: usize,
+) -> Result<List<Variable>, Fault>
+    ensures { Reads (reading_of.many (code.COMMA ∷ []) (reading.further_variable (expr_reading.expr depth)) tokens.old.rest.now) result tokens.new.rest.now }
+{
+    list(
+        alloc,
+        tokens,
+        &[COMMA],
+        |tokens: &mut Cursor<'_>| further_variable(alloc, tokens, depth),
+    )
+}
+
 #[tactic(auto, unfolding(crate::specs::DeclarationReading::variables, grammar_laws::specs::Readers::and_then))]
 fn variables(alloc: Global, tokens: &mut Cursor<'_>, depth: usize) -> Result<List<Variable>, Fault>
     ensures { Reads (reading.variables (expr_reading.expr depth) tokens.old.rest.now) result tokens.new.rest.now }
 {
     let first = variable(alloc, tokens, depth)?;
-    let more = list(
-        alloc,
-        tokens,
-        &[COMMA],
-        |tokens: &mut Cursor<'_>| further_variable(alloc, tokens, depth),
-    )?;
+    let (first, more) = with(first, further_variables(alloc, tokens, depth))?;
     Ok(list_from(alloc, first, more)?)
 }
 
@@ -201,13 +238,14 @@ fn declared(
 ) -> Result<Decl, Fault>
     ensures { Reads (reading.declared (expr_reading.expr depth) of tokens.old.rest.now) result tokens.new.rest.now }
 {
-    let variables = variables(alloc, tokens, depth)?;
-    tokens.word(SEMICOLON)?;
-    Ok(Decl {
+    let (of, variables) = with(of, variables(alloc, tokens, depth))?;
+    let decl = Decl {
         line: of.line,
         of,
         variables,
-    })
+    };
+    let (decl, _) = with(decl, tokens.word(SEMICOLON))?;
+    Ok(decl)
 }
 
 /// A declaration.
@@ -238,7 +276,7 @@ pub fn param(alloc: Global, tokens: &mut Cursor<'_>, depth: usize) -> Result<Par
 {
     let mark = mark(tokens, depth)?;
     let of = data_type(alloc, tokens, depth)?;
-    let name = tokens.name(alloc)?;
+    let (of, name) = with(of, tokens.name(alloc))?;
     Ok(Parameter {
         line: first_line(mark, of.line),
         is_var: mark.is_some(),
@@ -255,6 +293,23 @@ fn further_param(alloc: Global, tokens: &mut Cursor<'_>, depth: usize) -> Result
     param(alloc, tokens, depth)
 }
 
+/// `{ "," param }`.
+#[tactic(auto)]
+fn further_params(
+    alloc: Global,
+    tokens: &mut Cursor<'_>,
+    depth: usize,
+) -> Result<List<Parameter>, Fault>
+    ensures { Reads (reading_of.many (code.COMMA ∷ []) (reading.further_param (expr_reading.expr depth)) tokens.old.rest.now) result tokens.new.rest.now }
+{
+    list(
+        alloc,
+        tokens,
+        &[COMMA],
+        |tokens: &mut Cursor<'_>| further_param(alloc, tokens, depth),
+    )
+}
+
 /// `param { "," param }`.
 #[tactic(auto, unfolding(crate::specs::DeclarationReading::params, grammar_laws::specs::Readers::and_then))]
 pub fn params(
@@ -265,11 +320,6 @@ pub fn params(
     ensures { Reads (reading.params (expr_reading.expr depth) tokens.old.rest.now) result tokens.new.rest.now }
 {
     let first = param(alloc, tokens, depth)?;
-    let more = list(
-        alloc,
-        tokens,
-        &[COMMA],
-        |tokens: &mut Cursor<'_>| further_param(alloc, tokens, depth),
-    )?;
+    let (first, more) = with(first, further_params(alloc, tokens, depth))?;
     Ok(list_from(alloc, first, more)?)
 }

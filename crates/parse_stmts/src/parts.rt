@@ -14,7 +14,7 @@ use vera_ast::codes::{
     MINUS_MINUS, NAME, NOT_EQUAL, NUMBER, PLUS_EQUALS, PLUS_PLUS, POSEDGE, RIGHT_PARENTHESIS,
 };
 use vera_ast::{
-    Change, Delay, DelayForm, Edge, EdgeClock, Postfix, Step, Term, TermOperator, WindowKind,
+    Change, Delay, DelayForm, Edge, EdgeClock, Postfix, Step, Term, TermOperator, WindowKind, with,
 };
 
 /// `"@"`, with its line, as it begins a window.
@@ -46,8 +46,8 @@ fn edge_clock(alloc: Global, tokens: &mut Cursor<'_>) -> Result<EdgeClock, Fault
         return Ok(EdgeClock::Clock);
     }
     let interface = tokens.name(alloc)?;
-    tokens.word(DOT)?;
-    let signal = tokens.name(alloc)?;
+    let (interface, _) = with(interface, tokens.word(DOT))?;
+    let (interface, signal) = with(interface, tokens.name(alloc))?;
     Ok(EdgeClock::Signal(interface.text, signal.text))
 }
 
@@ -58,7 +58,7 @@ pub fn edge_rest(alloc: Global, tokens: &mut Cursor<'_>, line: u32) -> Result<Ed
 {
     tokens.word(POSEDGE)?;
     let clock = edge_clock(alloc, tokens)?;
-    tokens.word(RIGHT_PARENTHESIS)?;
+    let (clock, _) = with(clock, tokens.word(RIGHT_PARENTHESIS))?;
     Ok(Edge {
         line,
         negative: false,
@@ -106,7 +106,7 @@ pub fn delay_rest(
     ensures { Reads (reading.delay_rest (expressions.expr depth) line tokens.old.rest.now) result tokens.new.rest.now }
 {
     let count = expr(alloc, tokens, depth)?;
-    tokens.word(RIGHT_PARENTHESIS)?;
+    let (count, _) = with(count, tokens.word(RIGHT_PARENTHESIS))?;
     Ok(Delay {
         line,
         form: DelayForm::Parentheses(count),
@@ -169,7 +169,7 @@ pub fn changed(
 ) -> Result<Step, Fault>
     ensures { Reads (reading.changed (expressions.expr depth) target tokens.old.rest.now) result tokens.new.rest.now }
 {
-    let change = change(alloc, tokens, depth)?;
+    let (target, change) = with(target, change(alloc, tokens, depth))?;
     Ok(Step {
         line: target.line,
         target,
@@ -196,11 +196,12 @@ pub fn compared(
 ) -> Result<Term, Fault>
     ensures { Reads (reading.compared (expressions.expr depth) signal tokens.old.rest.now) result tokens.new.rest.now }
 {
-    let (_line, operator) = tokens.sign(&[
+    let sign = tokens.sign(&[
         (EQUAL, TermOperator::Equal),
         (NOT_EQUAL, TermOperator::NotEqual),
-    ])?;
-    let value = expr(alloc, tokens, depth)?;
+    ]);
+    let (signal, (_line, operator)) = with(signal, sign)?;
+    let (signal, value) = with(signal, expr(alloc, tokens, depth))?;
     Ok(Term {
         line: signal.line,
         signal,

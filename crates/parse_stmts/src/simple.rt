@@ -26,7 +26,7 @@ use vera_ast::codes::{
     PLUS_EQUALS, PLUS_PLUS, POSEDGE, SEMICOLON, SOFT,
 };
 use vera_ast::{
-    Delay, Drive, DriveOperator, Expect, Expr, Postfix, Step, Stmt, Term, Window, WindowKind,
+    Delay, Drive, DriveOperator, Expect, Expr, Postfix, Step, Stmt, Term, Window, WindowKind, with,
 };
 
 /// `";"` after a step.
@@ -34,7 +34,7 @@ use vera_ast::{
 fn stepped(tokens: &mut Cursor<'_>, depth: usize, step: Step) -> Result<Stmt, Fault>
     ensures { Reads (reading.stepped (expr_at depth) (post_at depth) (free_at depth) step tokens.old.rest.now) result tokens.new.rest.now }
 {
-    tokens.word(SEMICOLON)?;
+    let (step, _) = with(step, tokens.word(SEMICOLON))?;
     Ok(Stmt::Step(step))
 }
 
@@ -43,7 +43,7 @@ fn stepped(tokens: &mut Cursor<'_>, depth: usize, step: Step) -> Result<Stmt, Fa
 fn called(tokens: &mut Cursor<'_>, depth: usize, value: Postfix) -> Result<Stmt, Fault>
     ensures { Reads (reading.called (expr_at depth) (post_at depth) (free_at depth) value tokens.old.rest.now) result tokens.new.rest.now }
 {
-    tokens.word(SEMICOLON)?;
+    let (value, _) = with(value, tokens.word(SEMICOLON))?;
     Ok(Stmt::Call(value))
 }
 
@@ -69,7 +69,7 @@ fn driven_value(
 {
     let (_line, operator) = drive_sign(tokens, depth)?;
     let value = expr(alloc, tokens, depth)?;
-    tokens.word(SEMICOLON)?;
+    let (value, _) = with(value, tokens.word(SEMICOLON))?;
     Ok((operator, value))
 }
 
@@ -85,7 +85,9 @@ fn driven_at(
 ) -> Result<Stmt, Fault>
     ensures { Reads (reading.driven_at (expr_at depth) (post_at depth) (free_at depth) mark first signal tokens.old.rest.now) result tokens.new.rest.now }
 {
-    let (operator, value) = driven_value(alloc, tokens, depth)?;
+    let (parts, driven) = with((first, signal), driven_value(alloc, tokens, depth))?;
+    let (first, signal) = parts;
+    let (operator, value) = driven;
     Ok(Stmt::Drive(Drive {
         line: mark.0,
         delay: Some(first),
@@ -102,7 +104,7 @@ fn arrow_value(alloc: Global, tokens: &mut Cursor<'_>, depth: usize) -> Result<E
 {
     tokens.word(LESS_EQUAL)?;
     let value = expr(alloc, tokens, depth)?;
-    tokens.word(SEMICOLON)?;
+    let (value, _) = with(value, tokens.word(SEMICOLON))?;
     Ok(value)
 }
 
@@ -116,7 +118,7 @@ fn driven(
 ) -> Result<Stmt, Fault>
     ensures { Reads (reading.driven (expr_at depth) (post_at depth) (free_at depth) signal tokens.old.rest.now) result tokens.new.rest.now }
 {
-    let value = arrow_value(alloc, tokens, depth)?;
+    let (signal, value) = with(signal, arrow_value(alloc, tokens, depth))?;
     Ok(Stmt::Drive(Drive {
         line: signal.line,
         delay: None,
@@ -182,8 +184,7 @@ fn expect_tail(
         &[COMMA],
         |tokens: &mut Cursor<'_>| next_term(alloc, tokens, depth),
     )?;
-    let after = expect_end(tokens, depth)?;
-    Ok((more, after))
+    with(more, expect_end(tokens, depth))
 }
 
 /// An expect of these parts.
@@ -198,7 +199,7 @@ fn expected(
     ensures { IfOk result (λ expect. expect ≡ spec.expected window before first more after) }
 {
     let line = expect_line(&window, before, first.line);
-    let terms = list_from(alloc, first, more)?;
+    let (window, terms) = with(window, list_from(alloc, first, more))?;
     Ok(Expect {
         line,
         window,
@@ -220,7 +221,9 @@ fn expect_rest(
 ) -> Result<Stmt, Fault>
     ensures { Reads (reading.expect_rest (expr_at depth) (post_at depth) (free_at depth) window before first tokens.old.rest.now) result tokens.new.rest.now }
 {
-    let (more, after) = expect_tail(alloc, tokens, depth)?;
+    let (parts, tail) = with((window, first), expect_tail(alloc, tokens, depth))?;
+    let (window, first) = parts;
+    let (more, after) = tail;
     let expect = expected(alloc, window, before, first, more, after)?;
     Ok(Stmt::Expect(expect))
 }
@@ -235,8 +238,8 @@ fn soft_term(
 ) -> Result<Stmt, Fault>
     ensures { Reads (reading.soft_term (expr_at depth) (post_at depth) (free_at depth) window tokens.old.rest.now) result tokens.new.rest.now }
 {
-    let line = tokens.word(SOFT)?;
-    let first = term(alloc, tokens, depth)?;
+    let (window, line) = with(window, tokens.word(SOFT))?;
+    let (window, first) = with(window, term(alloc, tokens, depth))?;
     expect_rest(alloc, tokens, depth, window, Some(line), first)
 }
 
@@ -253,7 +256,7 @@ fn any_term(
     if tokens.begins(&[SOFT]) {
         return soft_term(alloc, tokens, depth, Some(window));
     }
-    let first = term(alloc, tokens, depth)?;
+    let (window, first) = with(window, term(alloc, tokens, depth))?;
     expect_rest(alloc, tokens, depth, Some(window), None, first)
 }
 
@@ -308,7 +311,7 @@ fn timed_signal(
     if tokens.begins(&[EQUALS, LESS_EQUAL]) {
         return driven_at(alloc, tokens, depth, mark, first, signal);
     }
-    let term = compared(alloc, tokens, depth, signal)?;
+    let (first, term) = with(first, compared(alloc, tokens, depth, signal))?;
     expect_rest(
         alloc,
         tokens,
@@ -330,7 +333,7 @@ fn second_term(
 ) -> Result<Stmt, Fault>
     ensures { Reads (reading.second_term (expr_at depth) (post_at depth) (free_at depth) mark first tokens.old.rest.now) result tokens.new.rest.now }
 {
-    let second = second_delay(alloc, tokens, depth)?;
+    let (first, second) = with(first, second_delay(alloc, tokens, depth))?;
     let window = Window {
         line: mark.0,
         kind: mark.1,
@@ -352,7 +355,7 @@ fn timed(
     ensures { Reads (reading.timed (expr_at depth) (post_at depth) (free_at depth) mark first tokens.old.rest.now) result tokens.new.rest.now }
 {
     if tokens.begins(&FIRST_FREE) {
-        let signal = free(alloc, tokens, depth)?;
+        let (first, signal) = with(first, free(alloc, tokens, depth))?;
         return timed_signal(alloc, tokens, depth, mark, first, signal);
     }
     if tokens.begins(&[SOFT]) {
@@ -367,7 +370,7 @@ fn edge_end(alloc: Global, tokens: &mut Cursor<'_>, depth: usize, line: u32) -> 
     ensures { Reads (reading.edge_end (expr_at depth) (post_at depth) (free_at depth) line tokens.old.rest.now) result tokens.new.rest.now }
 {
     let edge = edge_rest(alloc, tokens, line)?;
-    tokens.word(SEMICOLON)?;
+    let (edge, _) = with(edge, tokens.word(SEMICOLON))?;
     Ok(Stmt::Edge(edge))
 }
 

@@ -1,7 +1,7 @@
 use vera_ast::Conversion;
 
 /// How far a conversion has been read.
-#[derive(Clone, Copy, Debug, PartialEq, Eq)]
+#[derive(Clone, Copy, PartialEq, Eq)]
 pub enum Begun {
     /// No conversion is open.
     Nothing,
@@ -12,7 +12,7 @@ pub enum Begun {
 }
 
 /// What a byte of a format does.
-#[derive(Clone, Copy, Debug)]
+#[derive(Clone, Copy)]
 pub enum Turn {
     /// It is printed.
     Byte(u8),

@@ -13,7 +13,7 @@ pub struct Outline {
 }
 
 /// What a body belongs to.
-#[derive(Clone, Copy, Debug, PartialEq, Eq)]
+#[derive(Clone, Copy, PartialEq, Eq)]
 pub enum Body {
     Program,
     Task,

@@ -84,7 +84,7 @@ pub enum Argument {
 }
 
 /// Where an expression stands.
-#[derive(Clone, Copy, Debug, PartialEq, Eq)]
+#[derive(Clone, Copy, PartialEq, Eq)]
 pub enum Stand {
     /// Within another expression, or anywhere that isn't one of the others.
     Inside,

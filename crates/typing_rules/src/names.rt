@@ -5,7 +5,7 @@ use vera_ast::typed::names::{EnumName, TypedSignalName, TypedVariable, VariableP
 use vera_ast::typed::types::{ValueType, VariableType};
 
 /// What a name stands for.
-#[derive(Clone, Copy, Debug)]
+#[derive(Clone, Copy)]
 pub enum Meaning {
     /// A variable whose type isn't told yet: the walk through the declarations knows no more of it.
     Later,
@@ -32,7 +32,7 @@ pub struct Declared {
 }
 
 /// A parameter of a task or function, as its calls see it.
-#[derive(Clone, Copy, Debug)]
+#[derive(Clone, Copy)]
 pub struct Expected {
     pub is_var: bool,
     pub of: ValueType,

@@ -1,7 +1,7 @@
 use vera_ast::typed::builtin::{BuiltInFunction, BuiltInTask, WaitingFunction};
 
 /// The built-in calls.
-#[derive(Clone, Copy, Debug, PartialEq, Eq)]
+#[derive(Clone, Copy, PartialEq, Eq)]
 pub enum BuiltIn {
     Printf,
     Sprintf,
@@ -23,7 +23,7 @@ pub enum BuiltIn {
 }
 
 /// The mode words.
-#[derive(Clone, Copy, Debug, PartialEq, Eq)]
+#[derive(Clone, Copy, PartialEq, Eq)]
 pub enum Mode {
     Wait,
     NoWait,
@@ -44,7 +44,7 @@ pub enum Mode {
 }
 
 /// What a built-in call wants at a place of its list of arguments.
-#[derive(Clone, Copy, Debug, PartialEq, Eq)]
+#[derive(Clone, Copy, PartialEq, Eq)]
 pub enum Want {
     /// One of the call's mode words.
     Mode,
@@ -80,7 +80,7 @@ pub enum Want {
 }
 
 /// What becomes of a built-in call.
-#[derive(Clone, Copy, Debug, PartialEq, Eq)]
+#[derive(Clone, Copy, PartialEq, Eq)]
 pub enum Outcome {
     /// It gives a number, and doesn't wait.
     Gives(BuiltInFunction),

@@ -2,6 +2,7 @@
 //! token. A typed tree is the same with each name replaced by what it names, and each expression given its type.
 #![tactic(auto)]
 
+mod carry;
 pub mod codes;
 mod kind;
 pub mod refusal;
@@ -9,6 +10,7 @@ pub mod token;
 pub mod tree;
 pub mod typed;
 
+pub use carry::with;
 pub use kind::code;
 pub use refusal::FrontError;
 pub use refusal::Refusal;

@@ -27,17 +27,9 @@ pub built_in_refused : (owner : Body) (s : Stand) (line : ℕ) (b : BuiltIn) (xs
 unfolding built_in_call
 built_in_refused owner s line b xs x a = passed_on (keeps_built_in owner s line b xs) _ x a
 
-pub built_in_some : (owner : Body) (s : Stand) (line : ℕ) (b : BuiltIn) (xs : List Argument) (head : Head) → keeps_built_in owner s line b xs ≡ Ok tt → built_by (outcome b (mode_in xs) (count_in xs)) xs ≡ Some head
-    → built_in_call owner s line b xs ≡ Ok head
-unfolding built_in_call known
-built_in_some owner s line b xs head kept is =
-    ok_then (keeps_built_in owner s line b xs) tt _ kept ∙ ap (known 33 line) is
-
-pub built_in_none : (owner : Body) (s : Stand) (line : ℕ) (b : BuiltIn) (xs : List Argument) → keeps_built_in owner s line b xs ≡ Ok tt → built_by (outcome b (mode_in xs) (count_in xs)) xs ≡ None
-    → built_in_call owner s line b xs ≡ Err (record { code = 33; line = line })
-unfolding built_in_call known refuse
-built_in_none owner s line b xs kept is =
-    ok_then (keeps_built_in owner s line b xs) tt _ kept ∙ ap (known 33 line) is
+pub built_in_kept : (owner : Body) (s : Stand) (line : ℕ) (b : BuiltIn) (xs : List Argument) → keeps_built_in owner s line b xs ≡ Ok tt → built_in_call owner s line b xs ≡ known 33 line (built_by (outcome b (mode_in xs) (count_in xs)) xs)
+unfolding built_in_call
+built_in_kept owner s line b xs kept = ok_then (keeps_built_in owner s line b xs) tt _ kept
 
 -- ---- calls of the user's tasks and functions
 

@@ -1,12 +1,14 @@
 //! Calls: their rules, once what is called and all arguments were walked.
 
-ghost use Rattle.std.specs.Prelude.{◌≡◌, ◌++◌, ◌&&◌, ◌||◌, not, IfOk};
+ghost use Rattle.std.specs.Prelude.{◌≡◌, ◌++◌, ◌&&◌, ◌||◌, not, Some as SomeOf, IfOk};
 ghost use Rattle.vera_ast.specs.declared.typed.expr.TypedExpr.TheVariants as expr;
 ghost use Rattle.typing_rules.specs.Answers.{Answers, answered};
 ghost use Rattle.typing_rules.specs.Arguments as arguments_spec;
 ghost use Rattle.typing_rules.specs.Calls as spec;
+ghost use Rattle.typing_rules.specs.Checked as checked;
 ghost use Rattle.typing_rules.specs.Operands as operands;
 ghost use Rattle.typing_rules.specs.Signatures as signatures;
+ghost use Rattle.typing_rules.specs.declared.head.Head.TheVariants as head;
 ghost use Rattle.vera_calls.specs.CallForms as forms;
 ghost use Rattle.vera_calls.specs.Wanting.{wants_told};
 
@@ -24,12 +26,13 @@ use typing_rules::head::{Argument, Head, Stand, Typed};
 use typing_rules::names::{Expected, Meaning, Routine};
 use typing_rules::words::{BuiltIn, Mode, Outcome};
 use vera_ast::{
-    BuiltInFunction, FormatPart, FrontError, TypedCall, TypedCallee, TypedExpr, TypedPlace,
-    ValueType, VectorType, WaitingCall,
+    BuiltInFunction, BuiltInTask, FormatPart, FrontError, TypedCall, TypedCallee, TypedExpr,
+    TypedPlace, ValueType, VectorType, WaitingCall, WaitingFunction, with,
 };
-use vera_names::codes::{NOT_ASSIGNABLE, NOT_HERE, WRONG_COUNT, WRONG_TYPE, refused};
+use vera_names::codes::{NOT_ASSIGNABLE, NOT_HERE, WRONG_COUNT, WRONG_TYPE, refuse, refused};
 use vera_names::rules::{answered, keeps};
 use vera_values::arguments::{is_settable, suits, type_of};
+use vera_values::lists::items_with;
 use vera_values::sight::Sight;
 
 fn is_statement(stand: Stand) -> bool
@@ -182,21 +185,36 @@ fn boxed(alloc: Global, place: Option<TypedPlace>) -> Result<Option<Boxed<TypedP
 }
 
 /// A built-in call that gives a number and doesn't wait.
-fn given(alloc: Global, function: BuiltInFunction, split: Split) -> Result<Head, NoMemory>
-    ensures { IfOk result (λ head. head ≡ spec.integer_value (expr.BuiltIn function (split.values ++ split.behind) (spec.only split.places))) }
+fn given(alloc: Global, function: BuiltInFunction, split: Split) -> Result<Option<Head>, NoMemory>
+    ensures { IfOk result (λ made. made ≡ SomeOf (spec.integer_value (expr.BuiltIn function (split.values ++ split.behind) (spec.only split.places)))) }
 {
-    let Split {
-        values,
-        behind,
-        places,
-        ..
-    } = split;
-    let operands = joined(values, behind)?;
-    Ok(integer_value(TypedExpr::BuiltIn {
+    let (places, operands) = with(split.places, joined(split.values, split.behind))?;
+    let (operands, target) = with(operands, boxed(alloc, only(places)))?;
+    Ok(Some(integer_value(TypedExpr::BuiltIn {
         function,
         operands: Items::from_vec(operands.into_vec()),
-        target: boxed(alloc, only(places))?,
-    }))
+        target,
+    })))
+}
+
+/// A built-in call that may wait.
+fn waiting(function: WaitingFunction, split: Split) -> Result<Option<Head>, NoMemory>
+    ensures { IfOk result (λ made. made ≡ SomeOf (head.Waits (record { function = function; operands = split.values ++ split.behind; target = spec.only split.places }))) }
+{
+    let (places, operands) = with(split.places, joined(split.values, split.behind))?;
+    Ok(Some(Head::Waits(WaitingCall {
+        function,
+        operands,
+        target: only(places),
+    })))
+}
+
+/// A built-in call that gives nothing.
+fn done(task: BuiltInTask, split: Split) -> Result<Option<Head>, NoMemory>
+    ensures { IfOk result (λ made. made ≡ SomeOf (head.BuiltIn task (split.values ++ split.behind) split.places)) }
+{
+    let (places, operands) = with(split.places, joined(split.values, split.behind))?;
+    Ok(Some(Head::BuiltIn(task, operands, places)))
 }
 
 fn printed(format: Option<List<FormatPart>>, operands: List<TypedExpr>) -> Option<Head>
@@ -229,25 +247,36 @@ fn built_by(
     requires { format ≡ operands.format_in arguments.items }
     ensures { IfOk result (λ head. head ≡ spec.built_by outcome arguments.items) }
 {
-    let split = taken_apart(alloc, arguments)?;
+    let (format, split) = with(format, taken_apart(alloc, arguments))?;
     match outcome {
-        Outcome::Gives(function) => Ok(Some(given(alloc, function, split)?)),
-        Outcome::MayWait(function) => Ok(Some(Head::Waits(WaitingCall {
-            function,
-            operands: joined(split.values, split.behind)?,
-            target: only(split.places),
-        }))),
-        Outcome::Does(task) => {
-            let operands = joined(split.values, split.behind)?;
-            Ok(Some(Head::BuiltIn(task, operands, split.places)))
-        }
+        Outcome::Gives(function) => given(alloc, function, split),
+        Outcome::MayWait(function) => waiting(function, split),
+        Outcome::Does(task) => done(task, split),
         Outcome::Prints => Ok(printed(format, split.behind)),
         Outcome::PrintsInto => Ok(printed_into(split.places, format, split.behind)),
     }
 }
 
+/// A built-in call whose rules are kept, by what becomes of it.
+#[tactic(auto, unfolding(typing_rules::specs::Checked::known, typing_rules::specs::Checked::refuse))]
+fn built(
+    alloc: Global,
+    line: u32,
+    outcome: Outcome,
+    format: Option<List<FormatPart>>,
+    arguments: Vec<Argument>,
+) -> Result<Head, FrontError>
+    requires { format ≡ operands.format_in arguments.items }
+    ensures { Answers (checked.known checked.wrong_count line (spec.built_by outcome arguments.items)) result }
+{
+    match built_by(alloc, outcome, format, arguments)? {
+        Some(head) => Ok(head),
+        None => Err(refused(WRONG_COUNT, line)),
+    }
+}
+
 /// A built-in call with its arguments.
-#[tactic(auto, using(crate::proofs::CallSteps::built_in_refused, crate::proofs::CallSteps::built_in_some, crate::proofs::CallSteps::built_in_none))]
+#[tactic(auto, using(crate::proofs::CallSteps::built_in_refused, crate::proofs::CallSteps::built_in_kept))]
 fn built_in_call(
     alloc: Global,
     body: Body,
@@ -258,8 +287,14 @@ fn built_in_call(
 ) -> Result<Head, FrontError>
     ensures { Answers (spec.built_in_call body stand line call arguments.items) result }
 {
-    let format = format_in(alloc, arguments.as_slice())?;
-    keeps_built_in(
+    let format = format_in(alloc, arguments.as_slice());
+    let (arguments, format) = with(arguments, format)?;
+    let outcome = outcome(
+        call,
+        mode_in(arguments.as_slice()),
+        count_in(arguments.as_slice()),
+    );
+    let kept = keeps_built_in(
         alloc,
         body,
         stand,
@@ -267,16 +302,9 @@ fn built_in_call(
         call,
         &format,
         arguments.as_slice(),
-    )?;
-    let outcome = outcome(
-        call,
-        mode_in(arguments.as_slice()),
-        count_in(arguments.as_slice()),
     );
-    match built_by(alloc, outcome, format, arguments)? {
-        Some(head) => Ok(head),
-        None => Err(refused(WRONG_COUNT, line)),
-    }
+    let ((arguments, format), ()) = with((arguments, format), kept)?;
+    built(alloc, line, outcome, format, arguments)
 }
 
 fn is_task(routine: &Routine) -> bool
@@ -376,11 +404,12 @@ fn call_named(
 {
     match sight.outline().routine_of(means) {
         Some(routine) => {
-            keeps_user(sight, stand, line, routine, arguments.as_slice())?;
+            let kept = keeps_user(sight, stand, line, routine, arguments.as_slice());
+            let (arguments, ()) = with(arguments, kept)?;
             let number = number_of_routine(means);
             Ok(user_head(alloc, means, number, routine.gives, arguments)?)
         }
-        None => Err(refused(WRONG_TYPE, line)),
+        None => refuse(arguments, WRONG_TYPE, line),
     }
 }
 
@@ -395,10 +424,9 @@ fn length_call(
     ensures { Answers (forms.called_length line text arguments.now) result }
 {
     if !arguments.is_empty() {
-        return Err(refused(WRONG_COUNT, line));
+        return refuse(text, WRONG_COUNT, line);
     }
-    let mut operands = Items::new(alloc);
-    operands.push(text)?;
+    let operands = items_with(Items::new(alloc), text)?;
     Ok(integer_value(TypedExpr::BuiltIn {
         function: BuiltInFunction::Length,
         operands,
@@ -423,6 +451,6 @@ pub fn call(
         Head::Named(means) => call_named(alloc, sight, stand, line, means, arguments),
         Head::Length(text) => length_call(alloc, line, text, arguments.as_slice()),
         Head::New => Ok(Head::New),
-        _ => Err(refused(WRONG_TYPE, line)),
+        head => refuse((head, arguments), WRONG_TYPE, line),
     }
 }

@@ -106,7 +106,9 @@ fn part_argument(
     ensures { Answers (if spec.wants_variable want then Given (argument.NoVariable (value_type.Vector (spec.cut_type cut))) else spec.value_argument line (head.Part whole cut)) result }
 {
     if wants_variable(want) {
-        return Ok(Argument::NoVariable(ValueType::Vector(cut_type(&cut))));
+        let of = cut_type(&cut);
+        drop((whole, cut));
+        return Ok(Argument::NoVariable(ValueType::Vector(of)));
     }
     value_argument(alloc, line, Head::Part(whole, cut))
 }
@@ -137,7 +139,9 @@ fn signal_part_argument(
     ensures { Answers (if spec.wants_variable want then Given (argument.NoVariable (value_type.Vector (spec.cut_type cut))) else spec.value_argument line (head.SignalPart signal direction cut)) result }
 {
     if wants_variable(want) {
-        return Ok(Argument::NoVariable(ValueType::Vector(cut_type(&cut))));
+        let of = cut_type(&cut);
+        drop(cut);
+        return Ok(Argument::NoVariable(ValueType::Vector(of)));
     }
     value_argument(alloc, line, Head::SignalPart(signal, direction, cut))
 }

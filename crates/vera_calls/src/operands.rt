@@ -14,6 +14,7 @@ use typing_rules::words::Mode;
 use vera_ast::{ConversionLetter, FormatPart, TypedArgument, ValueType};
 use vera_values::arguments::prints;
 use vera_values::heads::place;
+use vera_values::lists::items_with;
 
 /// Whether it is a mode word.
 pub fn is_mode(argument: &Argument) -> bool
@@ -160,16 +161,9 @@ fn with_argument(
 ) -> Result<Items<TypedArgument>, NoMemory>
     ensures { IfOk result (λ new. new ≡ typed ++ spec.typed_argument argument) }
 {
-    let mut typed = typed;
     match argument {
-        Argument::Value(value) => {
-            typed.push(TypedArgument::Value(value.expr))?;
-            Ok(typed)
-        }
-        Argument::Whole(whole) => {
-            typed.push(TypedArgument::Variable(place(whole)))?;
-            Ok(typed)
-        }
+        Argument::Value(value) => items_with(typed, TypedArgument::Value(value.expr)),
+        Argument::Whole(whole) => items_with(typed, TypedArgument::Variable(place(whole))),
         _ => Ok(typed),
     }
 }

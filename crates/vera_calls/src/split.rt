@@ -6,7 +6,7 @@ ghost use Rattle.vera_calls.specs.Splitting as spec;
 use four_state::{List, NoMemory};
 use std::alloc::Global;
 use typing_rules::head::{Argument, Typed};
-use vera_ast::{TypedExpr, TypedPlace};
+use vera_ast::{TypedExpr, TypedPlace, with};
 use vera_values::heads::place;
 
 /// What a built-in call takes of its arguments.
@@ -27,20 +27,21 @@ impl Split {
         ensures { IfOk result (λ new. new ≡ spec.put_value self value) }
     {
         let mut split = self;
-        if split.is_behind {
-            split.behind.push(value.expr)?;
-            Ok(split)
+        let pushed = if split.is_behind {
+            split.behind.push(value.expr)
         } else {
-            split.values.push(value.expr)?;
-            Ok(split)
-        }
+            split.values.push(value.expr)
+        };
+        let (split, ()) = with(split, pushed)?;
+        Ok(split)
     }
 
     fn with_place(self, target: TypedPlace) -> Result<Split, NoMemory>
         ensures { IfOk result (λ new. new ≡ record self { places = self.places ++ target ∷ [] }) }
     {
         let mut split = self;
-        split.places.push(target)?;
+        let pushed = split.places.push(target);
+        let (split, ()) = with(split, pushed)?;
         Ok(split)
     }
 

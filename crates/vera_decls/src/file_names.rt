@@ -16,7 +16,7 @@ use vera_names::numbers::following;
 use vera_names::scope::Scope;
 
 /// How many items of each kind there are so far.
-#[derive(Clone, Copy, Debug)]
+#[derive(Clone, Copy)]
 pub struct Counts {
     enumerations: u32,
     classes: u32,

@@ -1,6 +1,6 @@
 //! The numbers of the rules.
 
-ghost use Rattle.std.specs.Prelude.{◌≡◌};
+ghost use Rattle.std.specs.Prelude.{◌≡◌, Err};
 ghost use Rattle.vera_ast.specs.declared.refusal.FrontError.TheVariants.{Refused};
 
 use vera_ast::{FrontError, Refusal};
@@ -37,4 +37,12 @@ pub fn refused(code: u8, line: u32) -> FrontError
     ensures { result ≡ Refused (record { code = code; line = line }) }
 {
     FrontError::Refused(Refusal { code, line })
+}
+
+/// The refusal of what was typed so far, which is let go here: a function that lets a tree go pays for it in its proof.
+pub fn refuse<T: Drop, U>(typed: T, code: u8, line: u32) -> Result<U, FrontError>
+    ensures { result ≡ Err (Refused (record { code = code; line = line })) }
+{
+    drop(typed);
+    Err(refused(code, line))
 }

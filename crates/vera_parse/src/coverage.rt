@@ -5,6 +5,8 @@ ghost use Rattle.vera_parse.specs.CoverageReading as reading;
 ghost use Rattle.parse_exprs.specs.ExpressionReading.{expr};
 ghost use Rattle.parse_cursor.specs.ListReading as lists;
 ghost use Rattle.parse_stmts.specs.PartReading.{edge};
+ghost use Rattle.parse_cursor.specs.TokenReading.{maybe};
+ghost use Rattle.std.specs.Prelude.{[], ◌∷◌};
 ghost use Rattle.vera_ast.specs.declared.codes.TheConstants as code;
 
 use four_state::{List, Text};
@@ -12,7 +14,6 @@ use grammar_laws::Fault;
 use parse_cursor::cursor::Cursor;
 use parse_cursor::repeats::{listed, some, title};
 use parse_cursor::trees::list_from;
-use parse_cursor::turns::maybe;
 use parse_exprs::exprs::expr;
 use parse_stmts::parts::edge;
 use std::alloc::Global;
@@ -21,7 +22,7 @@ use vera_ast::codes::{
     LEFT_BRACE, LEFT_PARENTHESIS, RIGHT_BRACE, RIGHT_PARENTHESIS, SAMPLE, SAMPLE_EVENT, SEMICOLON,
     STATE, SYNC, TRANS,
 };
-use vera_ast::{Bin, BinKind, BinValue, CoverageGroup, Expr, GroupEvent, Sample, SyncEvent};
+use vera_ast::{Bin, BinKind, BinValue, CoverageGroup, Expr, GroupEvent, Sample, SyncEvent, with};
 
 /// The words with which a bin begins.
 const BIN_WORDS: [u8; 4] = [STATE, BAD_STATE, TRANS, BAD_TRANS];
@@ -36,7 +37,7 @@ fn sync_event(alloc: Global, tokens: &mut Cursor<'_>) -> Result<GroupEvent, Faul
     tokens.word(ANY_MODE)?;
     tokens.word(COMMA)?;
     let name = title(alloc, tokens)?;
-    tokens.word(RIGHT_PARENTHESIS)?;
+    let (name, _) = with(name, tokens.word(RIGHT_PARENTHESIS))?;
     Ok(GroupEvent::Sync(SyncEvent { line, name }))
 }
 
@@ -49,22 +50,52 @@ fn last_value(alloc: Global, tokens: &mut Cursor<'_>, depth: usize) -> Result<Ex
     expr(alloc, tokens, depth)
 }
 
+/// `[ ":" expr ]`.
+#[tactic(auto, unfolding(grammar_laws::specs::Readers::either, grammar_laws::specs::Readers::and_then))]
+fn any_last_value(
+    alloc: Global,
+    tokens: &mut Cursor<'_>,
+    depth: usize,
+) -> Result<Option<Expr>, Fault>
+    ensures { Reads (maybe (code.COLON ∷ []) (lists.after code.COLON (expr depth)) tokens.old.rest.now) result tokens.new.rest.now }
+{
+    if !tokens.begins(&[COLON]) {
+        return Ok(None);
+    }
+    let last = last_value(alloc, tokens, depth)?;
+    Ok(Some(last))
+}
+
 /// `val = expr [ ":" expr ]`.
 #[tactic(auto, unfolding(crate::specs::CoverageReading::val, grammar_laws::specs::Readers::and_then))]
 fn val(alloc: Global, tokens: &mut Cursor<'_>, depth: usize) -> Result<BinValue, Fault>
     ensures { Reads (reading.val (expr depth) tokens.old.rest.now) result tokens.new.rest.now }
 {
     let first = expr(alloc, tokens, depth)?;
-    let last = maybe(
-        tokens,
-        &[COLON],
-        |tokens: &mut Cursor<'_>| last_value(alloc, tokens, depth),
-    )?;
+    let (first, last) = with(first, any_last_value(alloc, tokens, depth))?;
     Ok(BinValue {
         line: first.line(),
         first,
         last,
     })
+}
+
+/// Values with this sign between them.
+#[tactic(auto)]
+fn vals(
+    alloc: Global,
+    tokens: &mut Cursor<'_>,
+    depth: usize,
+    sign: u8,
+) -> Result<List<BinValue>, Fault>
+    ensures { Reads (lists.listed sign (reading.val (expr depth)) tokens.old.rest.now) result tokens.new.rest.now }
+{
+    listed(
+        alloc,
+        tokens,
+        sign,
+        |tokens: &mut Cursor<'_>| val(alloc, tokens, depth),
+    )
 }
 
 /// `( "state" | "bad_state" ) name "(" val { "," val } ")" ";"`.
@@ -74,21 +105,17 @@ fn state_bin(alloc: Global, tokens: &mut Cursor<'_>, depth: usize) -> Result<Bin
 {
     let (line, kind) = tokens.sign(&[(STATE, BinKind::State), (BAD_STATE, BinKind::BadState)])?;
     let name = title(alloc, tokens)?;
-    tokens.word(LEFT_PARENTHESIS)?;
-    let values = listed(
-        alloc,
-        tokens,
-        COMMA,
-        |tokens: &mut Cursor<'_>| val(alloc, tokens, depth),
-    )?;
-    tokens.word(RIGHT_PARENTHESIS)?;
-    tokens.word(SEMICOLON)?;
-    Ok(Bin {
+    let (name, _) = with(name, tokens.word(LEFT_PARENTHESIS))?;
+    let (name, values) = with(name, vals(alloc, tokens, depth, COMMA))?;
+    let bin = Bin {
         line,
         kind,
         name,
         values,
-    })
+    };
+    let (bin, _) = with(bin, tokens.word(RIGHT_PARENTHESIS))?;
+    let (bin, _) = with(bin, tokens.word(SEMICOLON))?;
+    Ok(bin)
 }
 
 /// `val "->" val { "->" val }`.
@@ -97,13 +124,8 @@ fn steps(alloc: Global, tokens: &mut Cursor<'_>, depth: usize) -> Result<List<Bi
     ensures { Reads (reading.steps (expr depth) tokens.old.rest.now) result tokens.new.rest.now }
 {
     let first = val(alloc, tokens, depth)?;
-    tokens.word(ARROW)?;
-    let more = listed(
-        alloc,
-        tokens,
-        ARROW,
-        |tokens: &mut Cursor<'_>| val(alloc, tokens, depth),
-    )?;
+    let (first, _) = with(first, tokens.word(ARROW))?;
+    let (first, more) = with(first, vals(alloc, tokens, depth, ARROW))?;
     Ok(list_from(alloc, first, more)?)
 }
 
@@ -117,16 +139,17 @@ fn trans_bin(alloc: Global, tokens: &mut Cursor<'_>, depth: usize) -> Result<Bin
         (BAD_TRANS, BinKind::BadTransition),
     ])?;
     let name = title(alloc, tokens)?;
-    tokens.word(LEFT_PARENTHESIS)?;
-    let values = steps(alloc, tokens, depth)?;
-    tokens.word(RIGHT_PARENTHESIS)?;
-    tokens.word(SEMICOLON)?;
-    Ok(Bin {
+    let (name, _) = with(name, tokens.word(LEFT_PARENTHESIS))?;
+    let (name, values) = with(name, steps(alloc, tokens, depth))?;
+    let bin = Bin {
         line,
         kind,
         name,
         values,
-    })
+    };
+    let (bin, _) = with(bin, tokens.word(RIGHT_PARENTHESIS))?;
+    let (bin, _) = with(bin, tokens.word(SEMICOLON))?;
+    Ok(bin)
 }
 
 /// A bin: of states, or of transitions.
@@ -150,6 +173,31 @@ fn signal_name(alloc: Global, tokens: &mut Cursor<'_>) -> Result<Text, Fault>
     title(alloc, tokens)
 }
 
+/// `[ "." name ]`.
+#[tactic(auto, unfolding(grammar_laws::specs::Readers::either, grammar_laws::specs::Readers::and_then))]
+fn any_signal_name(alloc: Global, tokens: &mut Cursor<'_>) -> Result<Option<Text>, Fault>
+    ensures { Reads (maybe (code.DOT ∷ []) (lists.after code.DOT lists.title) tokens.old.rest.now) result tokens.new.rest.now }
+{
+    if !tokens.begins(&[DOT]) {
+        return Ok(None);
+    }
+    let name = signal_name(alloc, tokens)?;
+    Ok(Some(name))
+}
+
+/// `bin { bin }`.
+#[tactic(auto)]
+fn bins(alloc: Global, tokens: &mut Cursor<'_>, depth: usize) -> Result<List<Bin>, Fault>
+    ensures { Reads (lists.some (code.STATE ∷ code.BAD_STATE ∷ code.TRANS ∷ code.BAD_TRANS ∷ []) (reading.bin (expr depth)) tokens.old.rest.now) result tokens.new.rest.now }
+{
+    some(
+        alloc,
+        tokens,
+        &BIN_WORDS,
+        |tokens: &mut Cursor<'_>| bin(alloc, tokens, depth),
+    )
+}
+
 /// `samp = "sample" name [ "." name ] "{" bin { bin } "}"`.
 #[tactic(auto, unfolding(crate::specs::CoverageReading::samp, grammar_laws::specs::Readers::and_then))]
 fn samp(alloc: Global, tokens: &mut Cursor<'_>, depth: usize) -> Result<Sample, Fault>
@@ -157,25 +205,18 @@ fn samp(alloc: Global, tokens: &mut Cursor<'_>, depth: usize) -> Result<Sample, 
 {
     let line = tokens.word(SAMPLE)?;
     let name = title(alloc, tokens)?;
-    let signal = maybe(
-        tokens,
-        &[DOT],
-        |tokens: &mut Cursor<'_>| signal_name(alloc, tokens),
-    )?;
-    tokens.word(LEFT_BRACE)?;
-    let bins = some(
-        alloc,
-        tokens,
-        &BIN_WORDS,
-        |tokens: &mut Cursor<'_>| bin(alloc, tokens, depth),
-    )?;
-    tokens.word(RIGHT_BRACE)?;
-    Ok(Sample {
+    let head = with(name, any_signal_name(alloc, tokens))?;
+    let (head, _) = with(head, tokens.word(LEFT_BRACE))?;
+    let (head, bins) = with(head, bins(alloc, tokens, depth))?;
+    let (name, signal) = head;
+    let sample = Sample {
         line,
         name,
         signal,
         bins,
-    })
+    };
+    let (sample, _) = with(sample, tokens.word(RIGHT_BRACE))?;
+    Ok(sample)
 }
 
 /// `event = edge | "sync" "(" "ANY" "," name ")"`.
@@ -190,6 +231,19 @@ fn event(alloc: Global, tokens: &mut Cursor<'_>, depth: usize) -> Result<GroupEv
     sync_event(alloc, tokens)
 }
 
+/// `samp { samp }`.
+#[tactic(auto)]
+fn samps(alloc: Global, tokens: &mut Cursor<'_>, depth: usize) -> Result<List<Sample>, Fault>
+    ensures { Reads (lists.some (code.SAMPLE ∷ []) (reading.samp (expr depth)) tokens.old.rest.now) result tokens.new.rest.now }
+{
+    some(
+        alloc,
+        tokens,
+        &[SAMPLE],
+        |tokens: &mut Cursor<'_>| samp(alloc, tokens, depth),
+    )
+}
+
 /// `group = "coverage_group" name "{" "sample_event" "=" event ";" samp { samp } "}"`.
 #[tactic(auto, unfolding(crate::specs::CoverageReading::group, grammar_laws::specs::Readers::and_then))]
 pub fn group(alloc: Global, tokens: &mut Cursor<'_>, depth: usize) -> Result<CoverageGroup, Fault>
@@ -197,22 +251,19 @@ pub fn group(alloc: Global, tokens: &mut Cursor<'_>, depth: usize) -> Result<Cov
 {
     let line = tokens.word(COVERAGE_GROUP)?;
     let name = title(alloc, tokens)?;
-    tokens.word(LEFT_BRACE)?;
-    tokens.word(SAMPLE_EVENT)?;
-    tokens.word(EQUALS)?;
-    let event = event(alloc, tokens, depth)?;
-    tokens.word(SEMICOLON)?;
-    let samples = some(
-        alloc,
-        tokens,
-        &[SAMPLE],
-        |tokens: &mut Cursor<'_>| samp(alloc, tokens, depth),
-    )?;
-    tokens.word(RIGHT_BRACE)?;
-    Ok(CoverageGroup {
+    let (name, _) = with(name, tokens.word(LEFT_BRACE))?;
+    let (name, _) = with(name, tokens.word(SAMPLE_EVENT))?;
+    let (name, _) = with(name, tokens.word(EQUALS))?;
+    let head = with(name, event(alloc, tokens, depth))?;
+    let (head, _) = with(head, tokens.word(SEMICOLON))?;
+    let (head, samples) = with(head, samps(alloc, tokens, depth))?;
+    let (name, event) = head;
+    let group = CoverageGroup {
         line,
         name,
         event,
         samples,
-    })
+    };
+    let (group, _) = with(group, tokens.word(RIGHT_BRACE))?;
+    Ok(group)
 }

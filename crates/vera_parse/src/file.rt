@@ -13,7 +13,7 @@ use crate::items::items;
 use grammar_laws::{Fault, Why};
 use parse_cursor::cursor::Cursor;
 use std::alloc::Global;
-use vera_ast::{FrontError, Refusal, Token, Tree};
+use vera_ast::{FrontError, Refusal, Token, Tree, with};
 
 /// How many of the productions `stmt`, `expr` and `unary` a token may lie in.
 const LIMIT: usize = 200;
@@ -35,7 +35,7 @@ fn file(alloc: Global, tokens: &mut Cursor<'_>, depth: usize) -> Result<Tree, Fa
     ensures { Reads (reading.file depth tokens.old.rest.now) result tokens.new.rest.now }
 {
     let tree = items(alloc, tokens, depth)?;
-    finished(tokens)?;
+    let (tree, ()) = with(tree, finished(tokens))?;
     Ok(tree)
 }
 

@@ -1,21 +1,25 @@
 //! Interfaces.
 
+ghost use Rattle.std.specs.Prelude.{[], ◌∷◌};
 ghost use Rattle.grammar_laws.specs.Readers.{Reads};
+ghost use Rattle.parse_cursor.specs.TokenReading.{many};
+ghost use Rattle.vera_ast.specs.declared.codes.TheConstants as code;
 ghost use Rattle.parse_stmts.specs.DeclarationReading.{range};
 ghost use Rattle.parse_exprs.specs.ExpressionReading.{expr};
 ghost use Rattle.vera_parse.specs.InterfaceReading as reading;
 
+use four_state::List;
 use grammar_laws::Fault;
 use parse_cursor::cursor::Cursor;
 use parse_cursor::repeats::{flag, title};
 use parse_cursor::turns::{list, maybe};
-use parse_stmts::decls::range;
+use parse_stmts::decls::any_range;
 use std::alloc::Global;
 use vera_ast::codes::{
-    CLOCK, HASH, INPUT, INTERFACE, LEFT_BRACE, LEFT_BRACKET, MINUS, NHOLD, NSAMPLE, OUTPUT, PHOLD,
-    PSAMPLE, RIGHT_BRACE, SEMICOLON,
+    CLOCK, HASH, INPUT, INTERFACE, LEFT_BRACE, MINUS, NHOLD, NSAMPLE, OUTPUT, PHOLD, PSAMPLE,
+    RIGHT_BRACE, SEMICOLON,
 };
-use vera_ast::{Direction, Interface, Signal, SignalForm, SignalKind, SignalTime, Skew};
+use vera_ast::{Direction, Interface, Signal, SignalForm, SignalKind, SignalTime, Skew, with};
 
 /// `"#" [ "-" ] number`.
 #[tactic(auto, unfolding(crate::specs::InterfaceReading::skew, grammar_laws::specs::Readers::and_then))]
@@ -78,21 +82,31 @@ fn signal(alloc: Global, tokens: &mut Cursor<'_>, depth: usize) -> Result<Signal
     ensures { Reads (reading.signal (range (expr depth)) tokens.old.rest.now) result tokens.new.rest.now }
 {
     let (line, direction) = direction(tokens)?;
-    let range = maybe(
-        tokens,
-        &[LEFT_BRACKET],
-        |tokens: &mut Cursor<'_>| range(alloc, tokens, depth),
-    )?;
-    let name = title(alloc, tokens)?;
-    let kind = kind(tokens)?;
-    tokens.word(SEMICOLON)?;
-    Ok(Signal {
+    let range = any_range(alloc, tokens, depth)?;
+    let (range, name) = with(range, title(alloc, tokens))?;
+    let ((range, name), kind) = with((range, name), kind(tokens))?;
+    let signal = Signal {
         line,
         direction,
         range,
         name,
         kind,
-    })
+    };
+    let (signal, _) = with(signal, tokens.word(SEMICOLON))?;
+    Ok(signal)
+}
+
+/// `{ signal }`.
+#[tactic(auto)]
+fn signals(alloc: Global, tokens: &mut Cursor<'_>, depth: usize) -> Result<List<Signal>, Fault>
+    ensures { Reads (many (code.INPUT ∷ code.OUTPUT ∷ []) (reading.signal (range (expr depth))) tokens.old.rest.now) result tokens.new.rest.now }
+{
+    list(
+        alloc,
+        tokens,
+        &[INPUT, OUTPUT],
+        |tokens: &mut Cursor<'_>| signal(alloc, tokens, depth),
+    )
 }
 
 /// `iface = "interface" name "{" { signal } "}"`.
@@ -102,17 +116,13 @@ pub fn iface(alloc: Global, tokens: &mut Cursor<'_>, depth: usize) -> Result<Int
 {
     let line = tokens.word(INTERFACE)?;
     let name = title(alloc, tokens)?;
-    tokens.word(LEFT_BRACE)?;
-    let signals = list(
-        alloc,
-        tokens,
-        &[INPUT, OUTPUT],
-        |tokens: &mut Cursor<'_>| signal(alloc, tokens, depth),
-    )?;
-    tokens.word(RIGHT_BRACE)?;
-    Ok(Interface {
+    let (name, _) = with(name, tokens.word(LEFT_BRACE))?;
+    let (name, signals) = with(name, signals(alloc, tokens, depth))?;
+    let interface = Interface {
         line,
         name,
         signals,
-    })
+    };
+    let (interface, _) = with(interface, tokens.word(RIGHT_BRACE))?;
+    Ok(interface)
 }

@@ -27,6 +27,7 @@ use vera_ast::codes::{
 };
 use vera_ast::{
     Class, DataType, Enumeration, Function, Item, Member, Parameter, Program, Task, TaskName, Tree,
+    with,
 };
 
 /// The words with which a parameter begins.
@@ -48,6 +49,19 @@ const FIRST_ITEM: [u8; 7] = [
     PROGRAM,
 ];
 
+/// `name { "," name }`.
+#[tactic(auto)]
+fn titles(alloc: Global, tokens: &mut Cursor<'_>) -> Result<List<Text>, Fault>
+    ensures { Reads (lists.listed code.COMMA lists.title tokens.old.rest.now) result tokens.new.rest.now }
+{
+    listed(
+        alloc,
+        tokens,
+        COMMA,
+        |tokens: &mut Cursor<'_>| title(alloc, tokens),
+    )
+}
+
 /// `enum = "enum" name "=" name { "," name } ";"`.
 #[tactic(auto, unfolding(crate::specs::ItemReading::enumeration, grammar_laws::specs::Readers::and_then))]
 fn enumeration(alloc: Global, tokens: &mut Cursor<'_>) -> Result<Enumeration, Fault>
@@ -55,15 +69,11 @@ fn enumeration(alloc: Global, tokens: &mut Cursor<'_>) -> Result<Enumeration, Fa
 {
     let line = tokens.word(ENUM)?;
     let name = title(alloc, tokens)?;
-    tokens.word(EQUALS)?;
-    let values = listed(
-        alloc,
-        tokens,
-        COMMA,
-        |tokens: &mut Cursor<'_>| title(alloc, tokens),
-    )?;
-    tokens.word(SEMICOLON)?;
-    Ok(Enumeration { line, name, values })
+    let (name, _) = with(name, tokens.word(EQUALS))?;
+    let (name, values) = with(name, titles(alloc, tokens))?;
+    let enumeration = Enumeration { line, name, values };
+    let (enumeration, _) = with(enumeration, tokens.word(SEMICOLON))?;
+    Ok(enumeration)
 }
 
 /// What a task is called: a name, or `new`.
@@ -106,7 +116,7 @@ fn parameters(
 {
     tokens.word(LEFT_PARENTHESIS)?;
     let all = any_params(alloc, tokens, depth)?;
-    tokens.word(RIGHT_PARENTHESIS)?;
+    let (all, _) = with(all, tokens.word(RIGHT_PARENTHESIS))?;
     Ok(all)
 }
 
@@ -120,8 +130,7 @@ fn task_head(
     ensures { Reads (whole.task_head depth tokens.old.rest.now) result tokens.new.rest.now }
 {
     let name = task_name(alloc, tokens)?;
-    let parameters = parameters(alloc, tokens, depth)?;
-    Ok((name, parameters))
+    with(name, parameters(alloc, tokens, depth))
 }
 
 /// `task = "task" ( name | "new" ) "(" [ params ] ")" block`.
@@ -131,11 +140,11 @@ fn task(alloc: Global, tokens: &mut Cursor<'_>, depth: usize) -> Result<Task, Fa
 {
     let line = tokens.word(TASK)?;
     let head = task_head(alloc, tokens, depth)?;
-    let block = block(alloc, tokens, depth)?;
+    let ((name, parameters), block) = with(head, block(alloc, tokens, depth))?;
     Ok(Task {
         line,
-        name: head.0,
-        parameters: head.1,
+        name,
+        parameters,
         block,
     })
 }
@@ -150,8 +159,8 @@ fn signature(
     ensures { Reads (whole.signature depth tokens.old.rest.now) result tokens.new.rest.now }
 {
     let result = data_type(alloc, tokens, depth)?;
-    let name = title(alloc, tokens)?;
-    let parameters = parameters(alloc, tokens, depth)?;
+    let (result, name) = with(result, title(alloc, tokens))?;
+    let ((result, name), parameters) = with((result, name), parameters(alloc, tokens, depth))?;
     Ok((result, (name, parameters)))
 }
 
@@ -162,7 +171,7 @@ fn func(alloc: Global, tokens: &mut Cursor<'_>, depth: usize) -> Result<Function
 {
     let line = tokens.word(FUNCTION)?;
     let head = signature(alloc, tokens, depth)?;
-    let block = block(alloc, tokens, depth)?;
+    let (head, block) = with(head, block(alloc, tokens, depth))?;
     Ok(Function {
         line,
         result: head.0,
@@ -179,7 +188,7 @@ fn prog(alloc: Global, tokens: &mut Cursor<'_>, depth: usize) -> Result<Program,
 {
     let line = tokens.word(PROGRAM)?;
     let name = title(alloc, tokens)?;
-    let block = block(alloc, tokens, depth)?;
+    let (name, block) = with(name, block(alloc, tokens, depth))?;
     Ok(Program { line, name, block })
 }
 
@@ -258,7 +267,7 @@ fn class_body(alloc: Global, tokens: &mut Cursor<'_>, depth: usize) -> Result<Li
 {
     tokens.word(LEFT_BRACE)?;
     let all = all_members(alloc, tokens, depth)?;
-    tokens.word(RIGHT_BRACE)?;
+    let (all, _) = with(all, tokens.word(RIGHT_BRACE))?;
     Ok(all)
 }
 
@@ -269,8 +278,9 @@ fn class(alloc: Global, tokens: &mut Cursor<'_>, depth: usize) -> Result<Class, 
 {
     let line = tokens.word(CLASS)?;
     let name = title(alloc, tokens)?;
-    let parent = parent(alloc, tokens)?;
-    let members = class_body(alloc, tokens, depth)?;
+    let (name, parent) = with(name, parent(alloc, tokens))?;
+    let head = (name, parent);
+    let ((name, parent), members) = with(head, class_body(alloc, tokens, depth))?;
     Ok(Class {
         line,
         name,

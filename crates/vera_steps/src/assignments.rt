@@ -14,10 +14,10 @@ use std::alloc::Global;
 use typing_rules::head::{Head, Right, Stand, Typed};
 use vera_ast::{
     Change, DriveOperator, Expr, FrontError, InitialValue, Step, TypedChange, TypedPlace,
-    TypedStep, TypedStmt, ValueType, VariableType,
+    TypedStep, TypedStmt, ValueType, VariableType, with,
 };
 use vera_exprs::expressions::{expr, walk};
-use vera_names::codes::{NOT_ASSIGNABLE, WRONG_TYPE, refused};
+use vera_names::codes::{NOT_ASSIGNABLE, WRONG_TYPE, refuse, refused};
 use vera_names::rules::{answered, keeps};
 use vera_values::heads::is_event;
 use vera_values::sight::Sight;
@@ -74,10 +74,7 @@ fn placed(
             target,
             change,
         })),
-        None => {
-            drop(change);
-            Err(refused(NOT_ASSIGNABLE, line))
-        }
+        None => refuse(change, NOT_ASSIGNABLE, line),
     }
 }
 
@@ -92,8 +89,9 @@ fn assign_right(
     ensures { Answers (sides.assign_right parents.now line side right) result }
 {
     let is_wrong = !left_fits(parents, &right, side.left);
-    answered(keeps(line, &[(WRONG_TYPE, is_wrong)]))?;
-    placed(line, side.place, assigning(right))
+    let kept = answered(keeps(line, &[(WRONG_TYPE, is_wrong)]));
+    let ((place, right), ()) = with((side.place, right), kept)?;
+    placed(line, place, assigning(right))
 }
 
 /// An assignment to what is no signal.
@@ -107,7 +105,7 @@ fn assign_value(
 ) -> Result<TypedStmt, FrontError>
     ensures { Answers (sides.assign_value sight.now line side value.now) result }
 {
-    let right = right_side(alloc, sight, line, value)?;
+    let (side, right) = with(side, right_side(alloc, sight, line, value))?;
     assign_right(sight.outline().classes(), line, side, right)
 }
 
@@ -145,7 +143,10 @@ fn assign(
     ensures { Answers (sides.assign_to sight.now line side value.now) result }
 {
     match side.target {
-        Some(target) => assign_signal(alloc, sight, line, target, value),
+        Some(target) => {
+            drop(side);
+            assign_signal(alloc, sight, line, target, value)
+        }
         None => assign_value(alloc, sight, line, side, value),
     }
 }
@@ -155,8 +156,9 @@ fn assign(
 fn added(line: u32, side: Side, of: ValueType, change: TypedChange) -> Result<TypedStmt, FrontError>
     ensures { Answers (sides.added line side of change) result }
 {
-    answered(keeps(line, &[(WRONG_TYPE, !adds(side.left, of))]))?;
-    placed(line, side.place, change)
+    let kept = answered(keeps(line, &[(WRONG_TYPE, !adds(side.left, of))]));
+    let ((place, change), ()) = with((side.place, change), kept)?;
+    placed(line, place, change)
 }
 
 /// `+=`: vectors alone.
@@ -170,7 +172,7 @@ fn add(
 ) -> Result<TypedStmt, FrontError>
     ensures { Answers (sides.add_to sight.now line side made.Add value.now) result }
 {
-    let Typed { expr: read, of } = expr(alloc, sight, value)?;
+    let (side, Typed { expr: read, of }) = with(side, expr(alloc, sight, value))?;
     added(line, side, of, TypedChange::Add(read))
 }
 
@@ -185,7 +187,7 @@ fn subtract(
 ) -> Result<TypedStmt, FrontError>
     ensures { Answers (sides.add_to sight.now line side made.Subtract value.now) result }
 {
-    let Typed { expr: read, of } = expr(alloc, sight, value)?;
+    let (side, Typed { expr: read, of }) = with(side, expr(alloc, sight, value))?;
     added(line, side, of, TypedChange::Subtract(read))
 }
 
@@ -194,8 +196,9 @@ fn subtract(
 fn count(line: u32, side: Side, change: TypedChange) -> Result<TypedStmt, FrontError>
     ensures { Answers (sides.count_at line side change) result }
 {
-    answered(keeps(line, &[(WRONG_TYPE, !left_counts(side.left))]))?;
-    placed(line, side.place, change)
+    let kept = answered(keeps(line, &[(WRONG_TYPE, !left_counts(side.left))]));
+    let ((place, change), ()) = with((side.place, change), kept)?;
+    placed(line, place, change)
 }
 
 fn changed(
@@ -264,16 +267,15 @@ fn value_declared(
     ensures { Answers (lists.value_declared sight.now line of value.now) result }
 {
     let right = right_side(alloc, sight, line, value)?;
-    answered(keeps(
+    let is_wrong = !fits_declared(sight.outline().classes(), &right, of);
+    let kept = answered(keeps(
         line,
         &[
-            (
-                WRONG_TYPE,
-                !fits_declared(sight.outline().classes(), &right, of),
-            ),
+            (WRONG_TYPE, is_wrong),
             (NOT_ASSIGNABLE, is_event_variable(of)),
         ],
-    ))?;
+    ));
+    let (right, ()) = with(right, kept)?;
     Ok(initial_value(right))
 }
 

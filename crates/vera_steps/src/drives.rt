@@ -13,11 +13,11 @@ use std::alloc::Global;
 use typing_rules::head::{Head, Typed};
 use vera_ast::{
     Delay, DelayForm, Direction, Drive, DriveOperator, FrontError, TypedDrive, TypedSignalName,
-    TypedStmt,
+    TypedStmt, with,
 };
 use vera_calls::calls::is_function;
 use vera_exprs::expressions::expr;
-use vera_names::codes::{NOT_HERE, WRONG_SIGNAL, WRONG_TYPE, refused};
+use vera_names::codes::{NOT_HERE, WRONG_SIGNAL, WRONG_TYPE, refuse};
 use vera_names::fitting::is_vector;
 use vera_names::rules::{answered, keeps};
 use vera_values::heads::{expr_or_missing, is_output, number};
@@ -54,14 +54,15 @@ pub fn drive(
 ) -> Result<TypedStmt, FrontError>
     ensures { Answers (spec.drive sight.now line delay signal direction operator value) result }
 {
-    answered(keeps(
+    let kept = answered(keeps(
         line,
         &[
             (WRONG_TYPE, is_wrong_drive(&delay, &value)),
             (NOT_HERE, is_function(sight.body())),
             (WRONG_SIGNAL, !is_output(direction)),
         ],
-    ))?;
+    ));
+    let ((delay, value), ()) = with((delay, value), kept)?;
     Ok(TypedStmt::Drive(TypedDrive {
         line,
         delay: expr_or_missing(delay),
@@ -129,7 +130,7 @@ fn driven(
             stmt.operator,
             value,
         ),
-        None => Err(refused(WRONG_TYPE, stmt.line)),
+        None => refuse((time, value), WRONG_TYPE, stmt.line),
     }
 }
 
@@ -139,7 +140,7 @@ pub fn drive_stmt(alloc: Global, sight: &Sight<'_>, stmt: &Drive) -> Result<Type
     ensures { Answers (spec.drive_stmt sight.now stmt.now) result }
 {
     let time = delay_or_missing(alloc, sight, &stmt.delay)?;
-    let target = walk_target(alloc, sight, &stmt.signal)?;
-    let value = expr(alloc, sight, &stmt.value)?;
+    let (time, target) = with(time, walk_target(alloc, sight, &stmt.signal))?;
+    let (time, value) = with(time, expr(alloc, sight, &stmt.value))?;
     driven(sight, stmt, time, target, value)
 }

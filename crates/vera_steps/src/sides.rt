@@ -116,6 +116,7 @@ fn whole_place(whole: Whole) -> Option<TypedPlace>
     ensures { result ≡ assignments.left_place (h.Whole whole) }
 {
     if is_event(whole_type(&whole)) {
+        drop(whole);
         return None;
     }
     Some(place(whole))

@@ -19,7 +19,7 @@ use typing_rules::head::Typed;
 use typing_rules::names::Meaning;
 use vera_ast::{
     Direction, Edge, EdgeClock, Expect, FrontError, Refusal, Term, TypedEdge, TypedExpect,
-    TypedSignalKind, TypedStmt, TypedTerm, TypedWindow, Window,
+    TypedSignalKind, TypedStmt, TypedTerm, TypedWindow, Window, with,
 };
 use vera_calls::calls::is_function;
 use vera_exprs::expressions::expr;
@@ -27,6 +27,7 @@ use vera_names::codes::{NOT_HERE, UNKNOWN_NAME, WRONG_SIGNAL, WRONG_TYPE};
 use vera_names::fitting::is_vector;
 use vera_names::rules::{answered, keeps};
 use vera_values::heads::{expr_or_missing, is_output};
+use vera_values::lists::list_with;
 use vera_values::sight::Sight;
 
 fn is_clock(kind: TypedSignalKind) -> bool
@@ -134,7 +135,7 @@ fn window(
     ensures { Answers (spec.window sight.now window.now) result }
 {
     let first = delay(alloc, sight, &window.first)?;
-    let second = delay_or_missing(alloc, sight, &window.second)?;
+    let (first, second) = with(first, delay_or_missing(alloc, sight, &window.second))?;
     let is_right = are_vectors(&first, &second);
     let typed = TypedWindow {
         kind: window.kind,
@@ -197,7 +198,8 @@ fn expected(term: &Term, target: Option<Target>, value: Typed) -> Result<TypedTe
 {
     match target {
         Some(target) => {
-            keeps_term(term.line, &value, target.direction)?;
+            let kept = keeps_term(term.line, &value, target.direction);
+            let (value, ()) = with(value, kept)?;
             Ok(TypedTerm {
                 line: term.line,
                 signal: target.signal,
@@ -205,10 +207,13 @@ fn expected(term: &Term, target: Option<Target>, value: Typed) -> Result<TypedTe
                 value: value.expr,
             })
         }
-        None => Err(Refusal {
-            code: WRONG_TYPE,
-            line: term.line,
-        }),
+        None => {
+            drop(value);
+            Err(Refusal {
+                code: WRONG_TYPE,
+                line: term.line,
+            })
+        }
     }
 }
 
@@ -227,7 +232,8 @@ fn terms(alloc: Global, sight: &Sight<'_>, terms: &[Term]) -> Result<List<TypedT
 {
     let mut typed = List::empty(alloc);
     for next in terms {
-        typed.push(term(alloc, sight, next)?)?;
+        let (before, next) = with(typed, term(alloc, sight, next))?;
+        typed = list_with(before, next)?;
     }
     Ok(typed)
 }
@@ -242,14 +248,15 @@ pub fn expect_stmt(
     ensures { Answers (spec.expect_stmt sight.now expect.now) result }
 {
     let window = window_or_missing(alloc, sight, &expect.window)?;
-    let terms = terms(alloc, sight, expect.terms.as_slice())?;
-    answered(keeps(
+    let (window, terms) = with(window, terms(alloc, sight, expect.terms.as_slice()))?;
+    let kept = answered(keeps(
         expect.line,
         &[
             (WRONG_TYPE, is_wrong_window(&window)),
             (NOT_HERE, is_function(sight.body())),
         ],
-    ))?;
+    ));
+    let ((window, terms), ()) = with((window, terms), kept)?;
     Ok(TypedStmt::Expect(TypedExpect {
         line: expect.line,
         window: window_alone(window),

@@ -12,12 +12,13 @@ use std::alloc::Global;
 use std::marker::Model;
 use typing_rules::names::Meaning;
 use vera_ast::{
-    Decl, DeclaredVariable, FrontError, TypedDecl, Variable, VariablePlace, VariableType,
+    Decl, DeclaredVariable, FrontError, TypedDecl, Variable, VariablePlace, VariableType, with,
 };
 use vera_decls::variables::decl_types;
 use vera_names::name_sets::variables_later;
 use vera_names::scope::{Scope, Scopes};
 use vera_steps::assignments::declared_value;
+use vera_values::lists::list_with;
 use vera_values::sight::Sight;
 
 /// Whose variables a block declares.
@@ -284,7 +285,8 @@ fn declared_variables(
 {
     let mut typed = List::empty(alloc);
     for variable in variables {
-        typed.push(declared_variable(alloc, sight, variable)?)?;
+        let (before, next) = with(typed, declared_variable(alloc, sight, variable))?;
+        typed = list_with(before, next)?;
     }
     Ok(typed)
 }
@@ -314,7 +316,8 @@ pub fn typed_decls(
 {
     let mut typed = List::empty(alloc);
     for decl in decls {
-        typed.push(typed_decl(alloc, sight, decl)?)?;
+        let (before, next) = with(typed, typed_decl(alloc, sight, decl))?;
+        typed = list_with(before, next)?;
     }
     Ok(typed)
 }

@@ -15,7 +15,7 @@ use typing_rules::names::Meaning;
 use vera_ast::{
     Block, Enumeration, FrontError, Function, Item, Parameter, Program, Task, TaskName, TypedBlock,
     TypedEnumeration, TypedFunction, TypedItem, TypedParameter, TypedProgram, TypedTask,
-    TypedVariable, ValueType, VariablePlace, VariableType,
+    TypedVariable, ValueType, VariablePlace, VariableType, with,
 };
 use vera_decls::interfaces::typed_interface;
 use vera_names::codes::refused;
@@ -151,9 +151,10 @@ fn task(
     let scope = parameter_scope(alloc, task.parameters.as_slice(), parameters.as_slice())?;
     let of = task_body(&task.name);
     let block = body_among(alloc, outline, &scope, scopes, slots, of, &task.block)?;
+    let (block, name) = with(block, copy_name(&task.name))?;
     Ok(TypedTask {
         line: task.line,
-        name: copy_name(&task.name)?,
+        name,
         parameters,
         block,
     })
@@ -218,9 +219,10 @@ fn function(
         slots,
         &function.block,
     )?;
+    let (block, name) = with(block, function.name.copy())?;
     Ok(TypedFunction {
         line: function.line,
-        name: function.name.copy()?,
+        name,
         result: variable,
         parameters,
         block,
@@ -240,9 +242,10 @@ fn program<'a>(
 {
     let sight = Sight::new(outline, scopes, 0, Body::Program);
     let block = block_with(alloc, &sight, variables, &program.block)?;
+    let (block, name) = with(block, program.name.copy())?;
     Ok(TypedProgram {
         line: program.line,
-        name: program.name.copy()?,
+        name,
         block,
     })
 }

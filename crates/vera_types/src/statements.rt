@@ -20,7 +20,7 @@ use vera_ast::{
     Arm, ArmLabel, Block, Expr, For, Fork, FrontError, If, Postfix, Repeat, Step, Stmt, TypedArm,
     TypedArmLabel, TypedBlock, TypedBuiltIn, TypedExpr, TypedFor, TypedFork, TypedIf, TypedPrintf,
     TypedRepeat, TypedSprintf, TypedStmt, TypedTaskCall, TypedVoid, TypedWait, TypedWhile, Void,
-    While,
+    While, with,
 };
 use vera_calls::calls::is_function;
 use vera_exprs::expressions::{expr, walk_post};
@@ -31,6 +31,7 @@ use vera_names::scope::{Scope, Scopes};
 use vera_steps::assignments::step;
 use vera_steps::drives::drive_stmt;
 use vera_steps::waits::{edge_stmt, expect_stmt};
+use vera_values::lists::{items_with, list_with};
 use vera_values::sight::Sight;
 use vera_values::values::value_of;
 
@@ -45,7 +46,8 @@ fn vector(
     ensures { Answers (spec.vector sight.now line value.now) result }
 {
     let Typed { expr: value, of } = expr(alloc, sight, value)?;
-    answered(keeps(line, &[(WRONG_TYPE, !is_vector(of))]))?;
+    let kept = answered(keeps(line, &[(WRONG_TYPE, !is_vector(of))]));
+    let (value, ()) = with(value, kept)?;
     Ok(value)
 }
 
@@ -104,7 +106,8 @@ fn exprs(alloc: Global, sight: &Sight<'_>, values: &[Expr]) -> Result<List<Typed
 {
     let mut typed = List::empty(alloc);
     for value in values {
-        typed.push(expr(alloc, sight, value)?)?;
+        let (before, next) = with(typed, expr(alloc, sight, value))?;
+        typed = list_with(before, next)?;
     }
     Ok(typed)
 }
@@ -115,7 +118,8 @@ fn label(line: u32, value: Typed) -> Result<TypedExpr, FrontError>
     ensures { Answers (lists.label line value) result }
 {
     let Typed { expr: value, of } = value;
-    answered(keeps(line, &[(WRONG_TYPE, !is_vector(of))]))?;
+    let kept = answered(keeps(line, &[(WRONG_TYPE, !is_vector(of))]));
+    let (value, ()) = with(value, kept)?;
     Ok(value)
 }
 
@@ -125,7 +129,8 @@ fn labels(alloc: Global, line: u32, values: List<Typed>) -> Result<List<TypedExp
 {
     let mut typed = List::empty(alloc);
     for value in values.into_vec() {
-        typed.push(label(line, value)?)?;
+        let (before, next) = with(typed, label(line, value))?;
+        typed = list_with(before, next)?;
     }
     Ok(typed)
 }
@@ -220,7 +225,8 @@ fn walk_stmts(
 {
     let mut typed = Items::new(alloc);
     for stmt in stmts {
-        typed.push(walk_stmt(alloc, sight, stmt)?)?;
+        let (before, next) = with(typed, walk_stmt(alloc, sight, stmt))?;
+        typed = items_with(before, next)?;
     }
     Ok(typed)
 }
@@ -237,7 +243,7 @@ pub fn block_with(
     ensures { Answers (bodies.block_with sight.now variables.now block.now) result }
 {
     let decls = typed_decls(alloc, sight, variables)?;
-    let stmts = walk_stmts(alloc, sight, block.stmts.as_slice())?;
+    let (decls, stmts) = with(decls, walk_stmts(alloc, sight, block.stmts.as_slice()))?;
     Ok(TypedBlock {
         line: block.line,
         decls,
@@ -296,8 +302,10 @@ fn if_stmt(alloc: Global, sight: &Sight<'_>, choice: &If) -> Result<TypedStmt, F
     ensures { Answers (lists.if_stmt sight.now choice.now) result }
 {
     let condition = vector(alloc, sight, choice.line, &choice.condition)?;
-    let when_true = walk_boxed(alloc, sight, choice.when_true.get())?;
-    let when_false = walk_otherwise(alloc, sight, &choice.when_false)?;
+    let when_true = walk_boxed(alloc, sight, choice.when_true.get());
+    let (condition, when_true) = with(condition, when_true)?;
+    let when_false = walk_otherwise(alloc, sight, &choice.when_false);
+    let ((condition, when_true), when_false) = with((condition, when_true), when_false)?;
     Ok(TypedStmt::If(TypedIf {
         line: choice.line,
         condition,
@@ -329,7 +337,8 @@ fn while_stmt(alloc: Global, sight: &Sight<'_>, turns: &While) -> Result<TypedSt
     ensures { Answers (lists.while_stmt sight.now turns.now) result }
 {
     let condition = vector(alloc, sight, turns.line, &turns.condition)?;
-    let body = walk_boxed(alloc, &sight.in_loop(), turns.body.get())?;
+    let body = walk_boxed(alloc, &sight.in_loop(), turns.body.get());
+    let (condition, body) = with(condition, body)?;
     Ok(TypedStmt::While(TypedWhile {
         line: turns.line,
         condition,
@@ -344,7 +353,8 @@ fn repeat_stmt(alloc: Global, sight: &Sight<'_>, turns: &Repeat) -> Result<Typed
     ensures { Answers (lists.repeat_stmt sight.now turns.now) result }
 {
     let count = vector(alloc, sight, turns.line, &turns.count)?;
-    let body = walk_boxed(alloc, &sight.in_loop(), turns.body.get())?;
+    let body = walk_boxed(alloc, &sight.in_loop(), turns.body.get());
+    let (count, body) = with(count, body)?;
     Ok(TypedStmt::Repeat(TypedRepeat {
         line: turns.line,
         count,
@@ -371,9 +381,12 @@ fn for_stmt(alloc: Global, sight: &Sight<'_>, turns: &For) -> Result<TypedStmt, 
     ensures { Answers (lists.for_stmt sight.now turns.now) result }
 {
     let start = boxed_step(alloc, sight, &turns.start)?;
-    let condition = vector(alloc, sight, turns.line, &turns.condition)?;
-    let next = boxed_step(alloc, sight, &turns.step)?;
-    let body = walk_boxed(alloc, &sight.in_loop(), turns.body.get())?;
+    let condition = vector(alloc, sight, turns.line, &turns.condition);
+    let (start, condition) = with(start, condition)?;
+    let next = boxed_step(alloc, sight, &turns.step);
+    let ((start, condition), next) = with((start, condition), next)?;
+    let body = walk_boxed(alloc, &sight.in_loop(), turns.body.get());
+    let ((start, condition, next), body) = with((start, condition, next), body)?;
     Ok(TypedStmt::For(TypedFor {
         line: turns.line,
         start,
@@ -396,7 +409,7 @@ fn case_stmt(
     ensures { Answers (lists.case_stmt sight.now line value.now arms.now) result }
 {
     let value = vector(alloc, sight, line, value)?;
-    let arms = walk_arms(alloc, sight, arms)?;
+    let (value, arms) = with(value, walk_arms(alloc, sight, arms))?;
     Ok(TypedStmt::Case { line, value, arms })
 }
 
@@ -406,7 +419,8 @@ fn walk_arms(alloc: Global, sight: &Sight<'_>, arms: &[Arm]) -> Result<Items<Typ
 {
     let mut typed = Items::new(alloc);
     for arm in arms {
-        typed.push(walk_arm(alloc, sight, arm)?)?;
+        let (before, next) = with(typed, walk_arm(alloc, sight, arm))?;
+        typed = items_with(before, next)?;
     }
     Ok(typed)
 }
@@ -418,7 +432,7 @@ fn walk_arm(alloc: Global, sight: &Sight<'_>, arm: &Arm) -> Result<TypedArm, Fro
     ensures { Answers (lists.arm sight.now arm.now) result }
 {
     let label = arm_label(alloc, sight, arm.line, &arm.label)?;
-    let body = walk_stmt(alloc, sight, &arm.body)?;
+    let (label, body) = with(label, walk_stmt(alloc, sight, &arm.body))?;
     Ok(TypedArm {
         line: arm.line,
         label,

@@ -16,12 +16,13 @@ use crate::bodies::item_of;
 use crate::outlines::outline_of;
 use four_state::List;
 use std::alloc::Global;
-use vera_ast::{FrontError, Item, Program, Tree, TypedItem, TypedTree};
+use vera_ast::{FrontError, Item, Program, Tree, TypedItem, TypedTree, with};
 use vera_decls::declarations::declarations;
 use vera_decls::file_names::{file_scope, one_program};
 use vera_names::name_sets::variables_later;
 use vera_names::outline::FileOutline;
 use vera_names::scope::{Scope, Scopes};
+use vera_values::lists::list_with;
 
 /// The walk through the declarations, where these names of the program's variables stand inside the names around them.
 fn declared_behind<'a>(
@@ -61,7 +62,9 @@ fn typed_items(
 {
     let mut typed = List::empty(alloc);
     for item in items {
-        typed.push(item_of(alloc, outline, scopes, variables, item)?)?;
+        let next = item_of(alloc, outline, scopes, variables, item);
+        let (before, next) = with(typed, next)?;
+        typed = list_with(before, next)?;
     }
     Ok(typed)
 }

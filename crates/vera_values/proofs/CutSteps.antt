@@ -1,19 +1,24 @@
 -- Bits of what stands before them, step by step.
-use Rattle.std.proofs.Common.{◌≡◌, ℕ, true, false, ap}
+use Rattle.std.proofs.Common.{◌≡◌, ◌≢◌, ℕ, true, false, ap, refl}
 use Rattle.std.specs.Prelude.{not, Ok, Err}
 use Rattle.vera_ast.specs.declared.refusal.FrontError.{FrontError}
 use Rattle.vera_ast.specs.declared.tree.interfaces.Direction.{Direction}
 use Rattle.vera_ast.specs.declared.typed.expr.TypedExpr.TheVariants as e
+use Rattle.vera_ast.specs.declared.typed.expr.TypedExpr.{TypedExpr}
 use Rattle.vera_ast.specs.declared.typed.names.TypedSignalName.{TypedSignalName}
+use Rattle.vera_ast.specs.declared.typed.place.TypedArray.{TypedArray}
+use Rattle.vera_ast.specs.declared.typed.types.ArrayLength.{ArrayLength}
+use Rattle.vera_ast.specs.declared.typed.types.ValueType.{ValueType}
 use Rattle.vera_ast.specs.declared.typed.types.ValueType.TheVariants as t
 use Rattle.vera_names.proofs.Answering.{ok_then, passed_on, refused_by, passed_by}
 use Rattle.typing_rules.specs.Answers.{Answers}
 use Rattle.typing_rules.specs.Checked.{Checked}
 use Rattle.typing_rules.specs.Heads.{typed, cut_of, cut_type}
-use Rattle.typing_rules.specs.Posts.{value_cut, reads_output, value_in, indexed, index}
+use Rattle.typing_rules.specs.Posts.{value_cut, cut_head, reads_output, value_in, indexed, index}
 use Rattle.vera_values.specs.Steps.{cut_behind}
 use Rattle.typing_rules.specs.Types.{is_vector}
 use Rattle.typing_rules.specs.declared.head.Cut.{Cut}
+use Rattle.typing_rules.specs.declared.head.Cut.TheVariants as cut
 use Rattle.typing_rules.specs.declared.head.Head.{Head}
 use Rattle.typing_rules.specs.declared.head.Head.TheVariants as h
 use Rattle.typing_rules.specs.declared.head.Stand.{Stand}
@@ -36,6 +41,10 @@ behind_wrong line m c x a = passed_on m (λ v. value_cut line v c) x a
 
 pub behind_right : (line : ℕ) (m : Checked Typed) (c : Cut) (x : Typed) → m ≡ Ok x → cut_behind line m c ≡ value_cut line x c
 behind_right line m c x e = ok_then m x (λ v. value_cut line v c) e
+
+pub indexed_other : (s : Stand) (line : ℕ) (head : Head) (i : TypedExpr) → ((a : TypedArray) (length : ArrayLength) (of : ValueType) → head ≢ h.Array a length of) → indexed s line head i ≡ cut_head s line head (cut.Bit i)
+indexed_other s line (h.Array a length of) i other = absurd (other a length of refl)
+indexed_other s line head i other = refl
 
 pub index_wrong : (s : Stand) (line : ℕ) (head : Head) (i : Typed) → is_vector i.of ≡ false → index s line head i ≡ Err (record { code = 32; line = line })
 unfolding index

@@ -8,7 +8,7 @@ use sqlite_items::Boxed;
 use std::alloc::Global;
 use typing_rules::head::{Cut, Typed, Whole};
 use vera_ast::{
-    Direction, Number, TypedExpr, TypedPlace, TypedSignalName, ValueType, VectorType, Width,
+    Direction, Number, TypedExpr, TypedPlace, TypedSignalName, ValueType, VectorType, Width, with,
 };
 use vera_names::fitting::width_from;
 
@@ -83,9 +83,12 @@ pub fn cut_type(cut: &Cut) -> VectorType
 pub fn cut_of(alloc: Global, value: TypedExpr, cut: Cut) -> Result<TypedExpr, NoMemory>
     ensures { IfOk result (λ bits. bits ≡ spec.cut_of value cut) }
 {
-    let value = Boxed::new(alloc, value)?;
+    let (cut, value) = with(cut, Boxed::new(alloc, value))?;
     match cut {
-        Cut::Bit(index) => Ok(TypedExpr::Bit(value, Boxed::new(alloc, index)?)),
+        Cut::Bit(index) => {
+            let (value, index) = with(value, Boxed::new(alloc, index))?;
+            Ok(TypedExpr::Bit(value, index))
+        }
         Cut::Bits(range) => Ok(TypedExpr::Bits(value, range)),
     }
 }
@@ -94,9 +97,12 @@ pub fn cut_of(alloc: Global, value: TypedExpr, cut: Cut) -> Result<TypedExpr, No
 pub fn part_place(alloc: Global, whole: Whole, cut: Cut) -> Result<TypedPlace, NoMemory>
     ensures { IfOk result (λ bits. bits ≡ spec.part_place whole cut) }
 {
-    let target = Boxed::new(alloc, place(whole))?;
+    let (cut, target) = with(cut, Boxed::new(alloc, place(whole)))?;
     match cut {
-        Cut::Bit(index) => Ok(TypedPlace::Bit(target, Boxed::new(alloc, index)?)),
+        Cut::Bit(index) => {
+            let (target, index) = with(target, Boxed::new(alloc, index))?;
+            Ok(TypedPlace::Bit(target, index))
+        }
         Cut::Bits(range) => Ok(TypedPlace::Bits(target, range)),
     }
 }

@@ -3,6 +3,7 @@
 
 pub mod arguments;
 pub mod heads;
+pub mod lists;
 pub mod posts;
 pub mod productions;
 pub mod sight;

@@ -20,9 +20,9 @@ use typing_rules::head::{Cut, Head, Stand, Typed, Whole};
 use typing_rules::names::{KnownSignal, Meaning};
 use vera_ast::{
     ArrayLength, BitRange, Direction, FrontError, TypedArray, TypedElement, TypedExpr,
-    TypedSignalName, TypedVariable, ValueType, VariableType, Width,
+    TypedSignalName, TypedVariable, ValueType, VariableType, Width, with,
 };
-use vera_names::codes::{PAST_LIMIT, UNKNOWN_NAME, WRONG_SIGNAL, WRONG_TYPE, refused};
+use vera_names::codes::{PAST_LIMIT, UNKNOWN_NAME, WRONG_SIGNAL, WRONG_TYPE, refuse, refused};
 use vera_names::fitting::{is_vector, width_from};
 use vera_names::reserved::{built_in, mode};
 use vera_names::scope::Scopes;
@@ -114,7 +114,7 @@ fn length_of(line: u32, word: &[u8], found: Option<TypedExpr>) -> Result<Head, F
 {
     match found {
         Some(text) if word == b"len".as_slice() => Ok(Head::Length(text)),
-        _ => Err(refused(WRONG_TYPE, line)),
+        found => refuse(found, WRONG_TYPE, line),
     }
 }
 
@@ -167,7 +167,7 @@ fn value_cut(alloc: Global, line: u32, value: Typed, cut: Cut) -> Result<Head, F
 {
     let Typed { expr, of } = value;
     if !is_vector(of) {
-        return Err(refused(WRONG_TYPE, line));
+        return refuse((expr, cut), WRONG_TYPE, line);
     }
     Ok(Head::Value(cut_value(alloc, expr, cut)?))
 }
@@ -192,7 +192,7 @@ fn part_in(
     ensures { Answers (spec.value_in stand line (head.SignalPart signal direction cut)) result }
 {
     if reads_output(stand, direction) {
-        return Err(refused(WRONG_SIGNAL, line));
+        return refuse(cut, WRONG_SIGNAL, line);
     }
     Ok(cut_value(alloc, TypedExpr::Sample(signal), cut)?)
 }
@@ -230,7 +230,7 @@ fn other_cut(
 ) -> Result<Head, FrontError>
     ensures { Answers (cut_behind line (spec.value_in stand line head) cut) result }
 {
-    let value = value_in(alloc, stand, line, head)?;
+    let (cut, value) = with(cut, value_in(alloc, stand, line, head))?;
     value_cut(alloc, line, value, cut)
 }
 
@@ -272,6 +272,7 @@ fn element(
 }
 
 /// An element of an array, or a bit.
+#[tactic(auto, using(crate::proofs::CutSteps::indexed_other))]
 fn indexed(
     alloc: Global,
     stand: Stand,
@@ -300,7 +301,7 @@ pub fn index(
 {
     let Typed { expr, of } = index;
     if !is_vector(of) {
-        return Err(refused(WRONG_TYPE, line));
+        return refuse((head, expr), WRONG_TYPE, line);
     }
     indexed(alloc, stand, line, head, expr)
 }
@@ -346,8 +347,7 @@ fn too_many(
 {
     let code = too_wide(stand, &head);
     let cut = cut_head(alloc, stand, line, head, range_cut(low, Width::one()))?;
-    drop(cut);
-    Err(refused(code, line))
+    refuse(cut, code, line)
 }
 
 /// `[high:low]`. The rules of the bits' order and of what they are bits of come before that of their number.
@@ -363,7 +363,7 @@ pub fn bits(
     ensures { Answers (spec.bits stand line head high low) result }
 {
     if high < low {
-        return Err(refused(WRONG_TYPE, line));
+        return refuse(head, WRONG_TYPE, line);
     }
     match range_width(high, low) {
         Some(width) => cut_head(alloc, stand, line, head, range_cut(low, width)),

@@ -10,15 +10,16 @@ ghost use Rattle.vera_values.specs.Steps.{bits_in, choice_head, choice_type, joi
 ghost use Rattle.typing_rules.specs.Types as types;
 
 use crate::arguments::is_str;
+use crate::lists::items_with;
 use four_state::NoMemory;
 use sqlite_items::{Boxed, Items};
 use std::alloc::Global;
 use typing_rules::head::{Head, Typed};
 use vera_ast::{
     ChainOperator, FrontError, TypedConditional, TypedExpr, TypedLink, UnaryOperator, ValueType,
-    VectorType, Width,
+    VectorType, Width, with,
 };
-use vera_names::codes::{WRONG_TYPE, refused};
+use vera_names::codes::{WRONG_TYPE, refuse};
 use vera_names::fitting::{is_vector, width_from, works_in};
 
 /// A condition with its two sides.
@@ -31,10 +32,16 @@ fn choice(
 ) -> Result<TypedExpr, NoMemory>
     ensures { IfOk result (λ x. x ≡ expr.Conditional (record { condition = condition; when_true = when_true; when_false = when_false; of = of })) }
 {
+    let (sides, condition) = with((when_true, when_false), Boxed::new(alloc, condition))?;
+    let (when_true, when_false) = sides;
+    let (rest, when_true) = with((condition, when_false), Boxed::new(alloc, when_true))?;
+    let (condition, when_false) = rest;
+    let (rest, when_false) = with((condition, when_true), Boxed::new(alloc, when_false))?;
+    let (condition, when_true) = rest;
     Ok(TypedExpr::Conditional(TypedConditional {
-        condition: Boxed::new(alloc, condition)?,
-        when_true: Boxed::new(alloc, when_true)?,
-        when_false: Boxed::new(alloc, when_false)?,
+        condition,
+        when_true,
+        when_false,
         of,
     }))
 }
@@ -89,7 +96,7 @@ pub fn conditional(
 {
     match choice_type(condition.of, when_true.of, when_false.of) {
         Some(of) => chosen(alloc, condition, when_true, when_false, of),
-        None => Err(refused(WRONG_TYPE, line)),
+        None => refuse((condition, when_true, when_false), WRONG_TYPE, line),
     }
 }
 
@@ -110,14 +117,15 @@ fn chained(
         let (operator, operand) = link;
         match works_in(parents, left, operator, operand.of) {
             Some(works) => {
-                done.push(TypedLink {
+                let link = TypedLink {
                     operator,
                     works_in: works,
                     operand: operand.expr,
-                })?;
+                };
+                done = items_with(done, link)?;
                 left = operator.gives(works);
             }
-            None => return Err(refused(WRONG_TYPE, line)),
+            None => return refuse(operand, WRONG_TYPE, line),
         }
     }
     Ok((done, left))
@@ -136,9 +144,9 @@ pub fn chain(
     ensures { Answers (spec.chain parents.now line first links.items) result }
 {
     let Typed { expr, of } = first;
-    let chained = chained(alloc, parents, line, of, links)?;
-    let first = Boxed::new(alloc, expr)?;
+    let (expr, chained) = with(expr, chained(alloc, parents, line, of, links))?;
     let (links, of) = chained;
+    let (links, first) = with(links, Boxed::new(alloc, expr))?;
     Ok(Head::Value(Typed {
         expr: TypedExpr::Chain(first, links),
         of,
@@ -157,7 +165,7 @@ pub fn unary(
 {
     let Typed { expr, of } = operand;
     if !is_vector(of) {
-        return Err(refused(WRONG_TYPE, line));
+        return refuse(expr, WRONG_TYPE, line);
     }
     Ok(Head::Value(Typed {
         expr: TypedExpr::Unary(operator, Boxed::new(alloc, expr)?),
@@ -255,7 +263,7 @@ fn exprs_of(alloc: Global, parts: Vec<Typed>) -> Result<Items<TypedExpr>, NoMemo
 {
     let mut exprs = Items::new(alloc);
     for part in parts {
-        exprs.push(part.expr)?;
+        exprs = items_with(exprs, part.expr)?;
     }
     Ok(exprs)
 }
@@ -270,7 +278,7 @@ pub fn concatenation(alloc: Global, line: u32, parts: Vec<Typed>) -> Result<Head
             expr: TypedExpr::Concatenation(exprs_of(alloc, parts)?, of),
             of,
         })),
-        None => Err(refused(WRONG_TYPE, line)),
+        None => refuse(parts, WRONG_TYPE, line),
     }
 }
 
@@ -285,13 +293,13 @@ pub fn replication(
     ensures { Answers (spec.replication line count parts.items) result }
 {
     if count == 0 {
-        return Err(refused(WRONG_TYPE, line));
+        return refuse(parts, WRONG_TYPE, line);
     }
     match joined_type(count, parts.as_slice()) {
         Some(of) => Ok(Head::Value(Typed {
             expr: TypedExpr::Replication(count, exprs_of(alloc, parts)?, of),
             of,
         })),
-        None => Err(refused(WRONG_TYPE, line)),
+        None => refuse(parts, WRONG_TYPE, line),
     }
 }

@@ -12,7 +12,7 @@ use four_state::{NoMemory, Text};
 use std::alloc::Global;
 use typing_rules::head::{Cut, Head, Typed, Whole};
 use vera_ast::{Direction, FrontError, Number, TypedExpr, TypedSignalName, ValueType};
-use vera_names::codes::{WRONG_SIGNAL, WRONG_TYPE, refused};
+use vera_names::codes::{WRONG_SIGNAL, WRONG_TYPE, refuse, refused};
 use vera_names::numbers::is_nothing;
 
 /// Whether it is the literal `0`.
@@ -87,7 +87,7 @@ fn sample_part(
     ensures { Answers (spec.value_of line (head.SignalPart signal direction cut)) result }
 {
     if is_output(direction) {
-        return Err(refused(WRONG_SIGNAL, line));
+        return refuse(cut, WRONG_SIGNAL, line);
     }
     Ok(cut_value(alloc, TypedExpr::Sample(signal), cut)?)
 }
@@ -108,6 +108,6 @@ pub fn value_of(alloc: Global, line: u32, head: Head) -> Result<Typed, FrontErro
         Head::SignalPart(signal, direction, cut) => {
             sample_part(alloc, line, signal, direction, cut)
         }
-        _ => Err(refused(WRONG_TYPE, line)),
+        head => refuse(head, WRONG_TYPE, line),
     }
 }

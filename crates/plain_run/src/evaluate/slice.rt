@@ -15,7 +15,7 @@ use four_state::NoMemory;
 use std::alloc::Global;
 
 /// How a slice ended.
-#[derive(Clone, Copy, Debug, PartialEq, Eq)]
+#[derive(Clone, Copy, PartialEq, Eq)]
 pub enum SliceEnd {
     /// The thread came to its end.
     Ended,

@@ -25,7 +25,7 @@ use vera_ast::{
 };
 
 /// Whether a slice goes on behind something that was done, or its thread waits for an edge.
-#[derive(Clone, Copy, Debug, PartialEq, Eq)]
+#[derive(Clone, Copy, PartialEq, Eq)]
 pub enum Taken {
     GoesOn,
     Waits,

@@ -3,7 +3,7 @@ use super::items::{Function, Task};
 use four_state::{List, Text};
 
 /// `class = "class" name [ "extends" name ] "{" { decl | [ "virtual" ] task | [ "virtual" ] func } "}"`.
-#[derive(Debug, Drop)]
+#[derive(Drop)]
 pub struct Class {
     pub line: u32,
     pub name: Text,
@@ -12,7 +12,7 @@ pub struct Class {
 }
 
 /// A field, or a method with whether `virtual` stands before it.
-#[derive(Debug, Drop)]
+#[derive(Drop)]
 pub enum Member {
     Field(Decl),
     Task(bool, Task),

@@ -3,7 +3,7 @@ use super::statements::Edge;
 use four_state::{List, Text};
 
 /// `group = "coverage_group" name "{" "sample_event" "=" event ";" samp { samp } "}"`.
-#[derive(Debug, Drop)]
+#[derive(Drop)]
 pub struct CoverageGroup {
     pub line: u32,
     pub name: Text,
@@ -13,21 +13,21 @@ pub struct CoverageGroup {
 }
 
 /// `event = edge | "sync" "(" "ANY" "," name ")"`.
-#[derive(Debug, Drop)]
+#[derive(Drop)]
 pub enum GroupEvent {
     Edge(Edge),
     Sync(SyncEvent),
 }
 
 /// `"sync" "(" "ANY" "," name ")"`.
-#[derive(Debug, Drop)]
+#[derive(Drop)]
 pub struct SyncEvent {
     pub line: u32,
     pub name: Text,
 }
 
 /// `samp = "sample" name [ "." name ] "{" bin { bin } "}"`.
-#[derive(Debug, Drop)]
+#[derive(Drop)]
 pub struct Sample {
     pub line: u32,
     pub name: Text,
@@ -39,7 +39,7 @@ pub struct Sample {
 
 /// `bin = ( "state" | "bad_state" ) name "(" val { "," val } ")" ";"
 ///      | ( "trans" | "bad_trans" ) name "(" val "->" val { "->" val } ")" ";"`.
-#[derive(Debug, Drop)]
+#[derive(Drop)]
 pub struct Bin {
     pub line: u32,
     pub kind: BinKind,
@@ -49,7 +49,7 @@ pub struct Bin {
 }
 
 /// The word that a bin begins with.
-#[derive(Clone, Copy, Debug, PartialEq, Eq)]
+#[derive(Clone, Copy, PartialEq, Eq)]
 pub enum BinKind {
     State,
     BadState,
@@ -58,7 +58,7 @@ pub enum BinKind {
 }
 
 /// `val = expr [ ":" expr ]`: one value, or a range from the first to the last.
-#[derive(Debug, Drop)]
+#[derive(Drop)]
 pub struct BinValue {
     pub line: u32,
     pub first: Expr,

@@ -2,14 +2,14 @@ use super::expressions::Expr;
 use four_state::{List, Text};
 
 /// `type = "integer" | ( "bit" | "reg" ) [ range ] | "string" | "event" | name`.
-#[derive(Debug, Drop)]
+#[derive(Drop)]
 pub struct DataType {
     pub line: u32,
     pub form: TypeForm,
 }
 
 /// The alternatives of a type.
-#[derive(Debug, Drop)]
+#[derive(Drop)]
 pub enum TypeForm {
     Integer,
     Bit(Option<Range>),
@@ -21,7 +21,7 @@ pub enum TypeForm {
 }
 
 /// `range = "[" expr ":" expr "]"`.
-#[derive(Debug, Drop)]
+#[derive(Drop)]
 pub struct Range {
     pub line: u32,
     pub high: Expr,
@@ -29,7 +29,7 @@ pub struct Range {
 }
 
 /// `decl = type var { "," var } ";"`.
-#[derive(Debug, Drop)]
+#[derive(Drop)]
 pub struct Decl {
     pub line: u32,
     pub of: DataType,
@@ -38,7 +38,7 @@ pub struct Decl {
 }
 
 /// `var = name [ "[" expr "]" ] [ "=" expr ]`.
-#[derive(Debug, Drop)]
+#[derive(Drop)]
 pub struct Variable {
     pub line: u32,
     pub name: Text,
@@ -47,7 +47,7 @@ pub struct Variable {
 }
 
 /// What stands in brackets behind a variable's name.
-#[derive(Debug, Drop)]
+#[derive(Drop)]
 pub enum Bracket {
     /// No brackets: the variable is no array.
     None,

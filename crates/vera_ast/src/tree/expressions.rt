@@ -7,7 +7,7 @@ use sqlite_items::{Boxed, Items};
 /// An expression. A production that only passes another one on leaves no node: an expression without `?` is its
 /// chain, a chain without an operator is its operand, and so on.
 #[cycle(tree_expr)]
-#[derive(Debug, Drop)]
+#[derive(Drop)]
 pub enum Expr {
     Conditional(Conditional),
     /// A level of the chain of operators, with at least one operator: the first operand, and the operators that
@@ -38,7 +38,7 @@ impl Expr {
 
 /// `expr = lor [ "?" expr ":" expr ]`, where the `?` stands.
 #[cycle(tree_expr)]
-#[derive(Debug, Drop)]
+#[derive(Drop)]
 pub struct Conditional {
     pub line: u32,
     pub condition: Boxed<Expr>,
@@ -48,14 +48,14 @@ pub struct Conditional {
 
 /// An operator of a chain, and the operand on its right.
 #[cycle(tree_expr)]
-#[derive(Debug, Drop)]
+#[derive(Drop)]
 pub struct Link {
     pub operator: ChainOperator,
     pub operand: Expr,
 }
 
 /// The operators that stand between two operands, the loosest first.
-#[derive(Clone, Copy, Debug, PartialEq, Eq)]
+#[derive(Clone, Copy, PartialEq, Eq)]
 pub enum ChainOperator {
     LogicalOr,
     LogicalAnd,
@@ -84,7 +84,7 @@ pub enum ChainOperator {
 
 /// `unary = ( "!" | "~" | "-" | "+" | "&" | "|" | "^" | "~&" | "~|" | "~^" ) unary`.
 #[cycle(tree_expr)]
-#[derive(Debug, Drop)]
+#[derive(Drop)]
 pub struct Unary {
     pub line: u32,
     pub operator: UnaryOperator,
@@ -92,7 +92,7 @@ pub struct Unary {
 }
 
 /// The operators that stand before their operand.
-#[derive(Clone, Copy, Debug, PartialEq, Eq)]
+#[derive(Clone, Copy, PartialEq, Eq)]
 pub enum UnaryOperator {
     LogicalNot,
     Not,
@@ -108,7 +108,7 @@ pub enum UnaryOperator {
 
 /// `post = prim { suffix }`.
 #[cycle(tree_expr)]
-#[derive(Debug, Drop)]
+#[derive(Drop)]
 pub struct Postfix {
     pub line: u32,
     pub primary: Primary,
@@ -118,7 +118,7 @@ pub struct Postfix {
 /// What may follow in `post`: `"." name`, `"." "new"`, `"[" expr [ ":" expr ] "]"` or
 /// `"(" [ expr { "," expr } ] ")"`.
 #[cycle(tree_expr)]
-#[derive(Debug, Drop)]
+#[derive(Drop)]
 pub enum Suffix {
     Member(Text),
     New,
@@ -131,7 +131,7 @@ pub enum Suffix {
 
 /// `prim`, with the line of its first token.
 #[cycle(tree_expr)]
-#[derive(Debug, Drop)]
+#[derive(Drop)]
 pub struct Primary {
     pub line: u32,
     pub form: PrimaryForm,
@@ -140,7 +140,7 @@ pub struct Primary {
 /// `prim = number | string | name | "null" | "this" | "super" | "new" | "(" expr ")"
 ///       | "{" expr { "," expr } "}" | "{" expr "{" expr { "," expr } "}" "}"`.
 #[cycle(tree_expr)]
-#[derive(Debug, Drop)]
+#[derive(Drop)]
 pub enum PrimaryForm {
     Number(Number),
     Str(Text),
@@ -159,7 +159,7 @@ pub enum PrimaryForm {
 
 /// A number literal: its value, and whether it is an unsized decimal. Such a one is an `integer`, and every other
 /// literal is a `bit` vector.
-#[derive(Clone, Copy, Debug)]
+#[derive(Clone, Copy)]
 pub struct Number {
     pub value: Vec4,
     pub is_decimal: bool,

@@ -3,7 +3,7 @@ use super::expressions::Number;
 use four_state::{List, Text};
 
 /// `iface = "interface" name "{" { signal } "}"`.
-#[derive(Debug, Drop)]
+#[derive(Drop)]
 pub struct Interface {
     pub line: u32,
     pub name: Text,
@@ -11,7 +11,7 @@ pub struct Interface {
 }
 
 /// `signal = ( "input" | "output" ) [ range ] name kind ";"`.
-#[derive(Debug, Drop)]
+#[derive(Drop)]
 pub struct Signal {
     pub line: u32,
     pub direction: Direction,
@@ -21,7 +21,7 @@ pub struct Signal {
 }
 
 /// Which side gives a signal its value.
-#[derive(Clone, Copy, Debug, PartialEq, Eq)]
+#[derive(Clone, Copy, PartialEq, Eq)]
 pub enum Direction {
     /// The netlist: the testbench samples it.
     Input,
@@ -30,14 +30,14 @@ pub enum Direction {
 }
 
 /// `kind = "CLOCK" | ( "PHOLD" | "PSAMPLE" | "NHOLD" | "NSAMPLE" ) [ "#" [ "-" ] number ]`.
-#[derive(Debug, Drop)]
+#[derive(Drop)]
 pub struct SignalKind {
     pub line: u32,
     pub form: SignalForm,
 }
 
 /// The alternatives of a signal's kind.
-#[derive(Debug, Drop)]
+#[derive(Drop)]
 pub enum SignalForm {
     Clock,
     Timed(SignalTime, Option<Skew>),
@@ -45,7 +45,7 @@ pub enum SignalForm {
 
 /// At which edge of the clock a signal is driven (`HOLD`) or sampled (`SAMPLE`): the positive one (`P`) or the
 /// negative one (`N`).
-#[derive(Clone, Copy, Debug, PartialEq, Eq)]
+#[derive(Clone, Copy, PartialEq, Eq)]
 pub enum SignalTime {
     PositiveHold,
     PositiveSample,
@@ -54,7 +54,7 @@ pub enum SignalTime {
 }
 
 /// `"#" [ "-" ] number`.
-#[derive(Debug, Drop)]
+#[derive(Drop)]
 pub struct Skew {
     pub is_negative: bool,
     pub amount: Number,

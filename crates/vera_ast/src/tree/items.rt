@@ -6,13 +6,13 @@ use super::statements::Block;
 use four_state::{List, Text};
 
 /// A source: `file = { item }`.
-#[derive(Debug, Drop)]
+#[derive(Drop)]
 pub struct Tree {
     pub items: List<Item>,
 }
 
 /// `item = enum | class | iface | group | task | func | prog`.
-#[derive(Debug, Drop)]
+#[derive(Drop)]
 pub enum Item {
     Enumeration(Enumeration),
     Class(Class),
@@ -24,7 +24,7 @@ pub enum Item {
 }
 
 /// `enum = "enum" name "=" name { "," name } ";"`.
-#[derive(Debug, Drop)]
+#[derive(Drop)]
 pub struct Enumeration {
     pub line: u32,
     pub name: Text,
@@ -33,7 +33,7 @@ pub struct Enumeration {
 }
 
 /// `task = "task" ( name | "new" ) "(" [ params ] ")" block`.
-#[derive(Debug, Drop)]
+#[derive(Drop)]
 pub struct Task {
     pub line: u32,
     pub name: TaskName,
@@ -42,14 +42,14 @@ pub struct Task {
 }
 
 /// What a task is called: a name, or `new`.
-#[derive(Debug, Drop)]
+#[derive(Drop)]
 pub enum TaskName {
     Named(Text),
     New,
 }
 
 /// `func = "function" type name "(" [ params ] ")" block`.
-#[derive(Debug, Drop)]
+#[derive(Drop)]
 pub struct Function {
     pub line: u32,
     pub result: DataType,
@@ -59,7 +59,7 @@ pub struct Function {
 }
 
 /// `param = [ "var" ] type name`.
-#[derive(Debug, Drop)]
+#[derive(Drop)]
 pub struct Parameter {
     pub line: u32,
     /// Whether `var` stands before it: the parameter stands for its argument's variable.
@@ -69,7 +69,7 @@ pub struct Parameter {
 }
 
 /// `prog = "program" name block`.
-#[derive(Debug, Drop)]
+#[derive(Drop)]
 pub struct Program {
     pub line: u32,
     pub name: Text,

@@ -8,7 +8,7 @@ use sqlite_items::{Boxed, Items};
 
 /// `block = "{" { decl } { stmt } "}"`.
 #[cycle(tree_stmt)]
-#[derive(Debug, Drop)]
+#[derive(Drop)]
 pub struct Block {
     pub line: u32,
     pub decls: List<Decl>,
@@ -16,7 +16,7 @@ pub struct Block {
 }
 
 /// `edge = "@" "(" "posedge" ( "CLOCK" | name "." name ) ")"`.
-#[derive(Debug, Drop)]
+#[derive(Drop)]
 pub struct Edge {
     pub line: u32,
     /// Whether it is the edge at which the clock falls. No source gives it yet.
@@ -25,7 +25,7 @@ pub struct Edge {
 }
 
 /// The clock of an edge: the system clock, or an interface's signal.
-#[derive(Debug, Drop)]
+#[derive(Drop)]
 pub enum EdgeClock {
     Clock,
     Signal(Text, Text),
@@ -33,7 +33,7 @@ pub enum EdgeClock {
 
 /// The alternatives of `stmt`, in their order.
 #[cycle(tree_stmt)]
-#[derive(Debug, Drop)]
+#[derive(Drop)]
 pub enum Stmt {
     Block(Block),
     /// `;`, with its line.
@@ -99,7 +99,7 @@ impl Stmt {
 }
 
 /// `"void" "=" post ";"`: the value is dropped.
-#[derive(Debug, Drop)]
+#[derive(Drop)]
 pub struct Void {
     pub line: u32,
     pub value: Postfix,
@@ -107,7 +107,7 @@ pub struct Void {
 
 /// `"if" "(" expr ")" stmt [ "else" stmt ]`.
 #[cycle(tree_stmt)]
-#[derive(Debug, Drop)]
+#[derive(Drop)]
 pub struct If {
     pub line: u32,
     pub condition: Expr,
@@ -117,7 +117,7 @@ pub struct If {
 
 /// `"while" "(" expr ")" stmt`.
 #[cycle(tree_stmt)]
-#[derive(Debug, Drop)]
+#[derive(Drop)]
 pub struct While {
     pub line: u32,
     pub condition: Expr,
@@ -126,7 +126,7 @@ pub struct While {
 
 /// `"repeat" "(" expr ")" stmt`.
 #[cycle(tree_stmt)]
-#[derive(Debug, Drop)]
+#[derive(Drop)]
 pub struct Repeat {
     pub line: u32,
     pub count: Expr,
@@ -135,7 +135,7 @@ pub struct Repeat {
 
 /// `"for" "(" step ";" expr ";" step ")" stmt`.
 #[cycle(tree_stmt)]
-#[derive(Debug, Drop)]
+#[derive(Drop)]
 pub struct For {
     pub line: u32,
     pub start: Step,
@@ -146,7 +146,7 @@ pub struct For {
 
 /// `arm = ( expr { "," expr } | "default" ) ":" stmt`.
 #[cycle(tree_stmt)]
-#[derive(Debug, Drop)]
+#[derive(Drop)]
 pub struct Arm {
     pub line: u32,
     pub label: ArmLabel,
@@ -154,7 +154,7 @@ pub struct Arm {
 }
 
 /// What a case's value is compared with.
-#[derive(Debug, Drop)]
+#[derive(Drop)]
 pub enum ArmLabel {
     /// At least one.
     Values(List<Expr>),
@@ -163,7 +163,7 @@ pub enum ArmLabel {
 
 /// `"fork" stmt { stmt } "join" [ "all" | "any" | "none" ]`.
 #[cycle(tree_stmt)]
-#[derive(Debug, Drop)]
+#[derive(Drop)]
 pub struct Fork {
     pub line: u32,
     /// At least one.
@@ -172,7 +172,7 @@ pub struct Fork {
 }
 
 /// For which of its branches a fork waits. A plain `join` waits for all.
-#[derive(Clone, Copy, Debug, PartialEq, Eq)]
+#[derive(Clone, Copy, PartialEq, Eq)]
 pub enum Join {
     All,
     Any,
@@ -181,7 +181,7 @@ pub enum Join {
 
 /// `[ "@" delay ] post ( "=" | "<=" ) expr ";"`. With `=` a delay stands before it: without one, `post = expr` is a
 /// step.
-#[derive(Debug, Drop)]
+#[derive(Drop)]
 pub struct Drive {
     pub line: u32,
     /// Where it is missing, the delay is 0.
@@ -192,7 +192,7 @@ pub struct Drive {
 }
 
 /// The sign between a drive's signal and its value.
-#[derive(Clone, Copy, Debug, PartialEq, Eq)]
+#[derive(Clone, Copy, PartialEq, Eq)]
 pub enum DriveOperator {
     /// `=`.
     Assign,
@@ -201,7 +201,7 @@ pub enum DriveOperator {
 }
 
 /// `[ ( "@" | "@@" | "@@@" ) delay [ "," delay ] ] [ "soft" ] term { "," term } [ "soft" ] ";"`.
-#[derive(Debug, Drop)]
+#[derive(Drop)]
 pub struct Expect {
     pub line: u32,
     /// Where it is missing, it is `@0`.
@@ -215,7 +215,7 @@ pub struct Expect {
 }
 
 /// `( "@" | "@@" | "@@@" ) delay [ "," delay ]`.
-#[derive(Debug, Drop)]
+#[derive(Drop)]
 pub struct Window {
     pub line: u32,
     pub kind: WindowKind,
@@ -225,7 +225,7 @@ pub struct Window {
 }
 
 /// When the terms of an expect have to hold in its window.
-#[derive(Clone, Copy, Debug, PartialEq, Eq)]
+#[derive(Clone, Copy, PartialEq, Eq)]
 pub enum WindowKind {
     /// `@`: at some cycle.
     Simple,
@@ -236,14 +236,14 @@ pub enum WindowKind {
 }
 
 /// `delay = number | name | "(" expr ")"`.
-#[derive(Debug, Drop)]
+#[derive(Drop)]
 pub struct Delay {
     pub line: u32,
     pub form: DelayForm,
 }
 
 /// The alternatives of a delay.
-#[derive(Debug, Drop)]
+#[derive(Drop)]
 pub enum DelayForm {
     Number(Number),
     Name(Text),
@@ -251,7 +251,7 @@ pub enum DelayForm {
 }
 
 /// `term = post ( "==" | "!=" ) expr`.
-#[derive(Debug, Drop)]
+#[derive(Drop)]
 pub struct Term {
     pub line: u32,
     pub signal: Postfix,
@@ -260,7 +260,7 @@ pub struct Term {
 }
 
 /// The sign between a term's signal and its value.
-#[derive(Clone, Copy, Debug, PartialEq, Eq)]
+#[derive(Clone, Copy, PartialEq, Eq)]
 pub enum TermOperator {
     /// `==`.
     Equal,
@@ -269,7 +269,7 @@ pub enum TermOperator {
 }
 
 /// `step = post ( "=" | "+=" | "-=" ) expr | post ( "++" | "--" )`.
-#[derive(Debug, Drop)]
+#[derive(Drop)]
 pub struct Step {
     pub line: u32,
     pub target: Postfix,
@@ -277,7 +277,7 @@ pub struct Step {
 }
 
 /// What a step does to its target.
-#[derive(Debug, Drop)]
+#[derive(Drop)]
 pub enum Change {
     /// `= expr`.
     Assign(Expr),

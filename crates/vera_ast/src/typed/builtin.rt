@@ -2,7 +2,7 @@ use super::modes::{MailboxMode, SyncMode, TriggerMode};
 
 /// A built-in call that gives a number, and doesn't wait: its name with its mode. Beside each stands which operands it
 /// has; its target, where it has one, is the place that it assigns.
-#[derive(Clone, Copy, Debug, PartialEq, Eq)]
+#[derive(Clone, Copy, PartialEq, Eq)]
 pub enum BuiltInFunction {
     /// `flag()`.
     Flag,
@@ -31,7 +31,7 @@ pub enum BuiltInFunction {
 }
 
 /// A built-in call that gives a number, and may wait before: its name with its mode, and which operands it has.
-#[derive(Clone, Copy, Debug, PartialEq, Eq)]
+#[derive(Clone, Copy, PartialEq, Eq)]
 pub enum WaitingFunction {
     /// `semaphore_get(WAIT, id, keys)`: id, keys.
     SemaphoreGet,
@@ -45,7 +45,7 @@ pub enum WaitingFunction {
 
 /// A built-in call that gives nothing: its name with its mode, and which operands it has. `printf` and `sprintf` have
 /// statements of their own.
-#[derive(Clone, Copy, Debug, PartialEq, Eq)]
+#[derive(Clone, Copy, PartialEq, Eq)]
 pub enum BuiltInTask {
     /// `exit(value)`: value.
     Exit,

@@ -54,7 +54,7 @@ pub struct TypedFunction {
 }
 
 /// A parameter. A `var` one is a reference.
-#[derive(Clone, Copy, Debug)]
+#[derive(Clone, Copy)]
 pub struct TypedParameter {
     pub line: u32,
     pub place: VariablePlace,

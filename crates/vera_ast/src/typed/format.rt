@@ -8,7 +8,7 @@ pub enum FormatPart {
 }
 
 /// `%`, an optional `0`, an optional width, and a letter.
-#[derive(Clone, Copy, Debug, PartialEq, Eq)]
+#[derive(Clone, Copy, PartialEq, Eq)]
 pub struct Conversion {
     /// Whether a `0` stands before the width.
     pub zero: bool,
@@ -18,7 +18,7 @@ pub struct Conversion {
 }
 
 /// The letter of a conversion: what it prints.
-#[derive(Clone, Copy, Debug, PartialEq, Eq)]
+#[derive(Clone, Copy, PartialEq, Eq)]
 pub enum ConversionLetter {
     /// `d`: the decimal number.
     Decimal,

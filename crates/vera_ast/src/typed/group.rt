@@ -14,7 +14,7 @@ pub struct TypedGroup {
 }
 
 /// When the instances of a group are sampled.
-#[derive(Clone, Copy, Debug)]
+#[derive(Clone, Copy)]
 pub enum TypedGroupEvent {
     Edge(TypedEdge),
     /// `sync(ANY, event)`: the number of the program's event among the program's variables.
@@ -34,7 +34,7 @@ pub struct TypedSample {
 }
 
 /// What is sampled.
-#[derive(Clone, Copy, Debug, PartialEq, Eq)]
+#[derive(Clone, Copy, PartialEq, Eq)]
 pub enum SampleSource {
     /// A vector or an enumeration of the program.
     Variable(TypedVariable),
@@ -53,7 +53,7 @@ pub struct TypedBin {
 }
 
 /// `first:last`: a range of constants, with both ends. One value is a range of itself.
-#[derive(Clone, Copy, Debug, PartialEq, Eq)]
+#[derive(Clone, Copy, PartialEq, Eq)]
 pub struct TypedBinValue {
     pub first: u32,
     pub last: u32,

@@ -11,7 +11,7 @@ pub struct TypedInterface {
 }
 
 /// A signal of an interface: `direction range name kind`. Its skew has no effect, and leaves no trace.
-#[derive(Debug, Drop)]
+#[derive(Drop)]
 pub struct TypedSignal {
     pub line: u32,
     pub direction: Direction,
@@ -21,7 +21,7 @@ pub struct TypedSignal {
 }
 
 /// When a signal is sampled or driven.
-#[derive(Clone, Copy, Debug, PartialEq, Eq)]
+#[derive(Clone, Copy, PartialEq, Eq)]
 pub enum TypedSignalKind {
     /// The clock itself.
     Clock,

@@ -65,7 +65,7 @@ pub enum TypedArray {
 }
 
 /// `[high:low]`: so many bits, and the number of the lowest.
-#[derive(Clone, Copy, Debug, PartialEq, Eq)]
+#[derive(Clone, Copy, PartialEq, Eq)]
 pub struct BitRange {
     pub low: u32,
     pub width: Width,

@@ -194,7 +194,7 @@ pub struct TypedSprintf {
 }
 
 /// `@(posedge ..)`: the thread waits for the next edge of the clock. All edges are those of the one clock.
-#[derive(Clone, Copy, Debug)]
+#[derive(Clone, Copy)]
 pub struct TypedEdge {
     pub line: u32,
     /// Whether it is the edge at which the clock falls. No source gives it yet.

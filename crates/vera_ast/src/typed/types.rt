@@ -1,7 +1,7 @@
 ghost use Rattle.std.specs.Prelude.{◌≡◌, ◌≤◌};
 
 /// How many bits a vector has: 1 to 128.
-#[derive(Clone, Copy, Debug, PartialEq, Eq)]
+#[derive(Clone, Copy, PartialEq, Eq)]
 pub struct Width {
     pub bits: u8,
     pub ghost not_empty: { 1 ≤ bits },
@@ -32,7 +32,7 @@ impl Width {
 }
 
 /// The type of a vector.
-#[derive(Clone, Copy, Debug, PartialEq, Eq)]
+#[derive(Clone, Copy, PartialEq, Eq)]
 pub enum VectorType {
     /// `integer`: 32 bits, read in two's complement and extended by its top bit.
     Integer,
@@ -80,7 +80,7 @@ impl VectorType {
 }
 
 /// The type of a value.
-#[derive(Clone, Copy, Debug, PartialEq, Eq)]
+#[derive(Clone, Copy, PartialEq, Eq)]
 pub enum ValueType {
     Vector(VectorType),
     Str,
@@ -115,14 +115,14 @@ impl ValueType {
 }
 
 /// The type of a variable: that of its value, or an array of elements of a type.
-#[derive(Clone, Copy, Debug, PartialEq, Eq)]
+#[derive(Clone, Copy, PartialEq, Eq)]
 pub enum VariableType {
     Value(ValueType),
     Array(ValueType, ArrayLength),
 }
 
 /// Which elements an array has.
-#[derive(Clone, Copy, Debug, PartialEq, Eq)]
+#[derive(Clone, Copy, PartialEq, Eq)]
 pub enum ArrayLength {
     /// So many, 1 to 65,536, numbered from 0.
     Fixed(u32),

@@ -9,29 +9,30 @@ use Rattle.typing_rules.specs.Checked.{Checked, each}
 use Rattle.typing_rules.specs.Statements.{walk_stmt}
 use Rattle.vera_types.specs.StmtForms.{arm, case_stmt}
 use Rattle.vera_types.proofs.StmtWalks.{arm_answers, break_walks, call_walks, case_walks, continue_walks, drive_walks, edge_walks, empty_walks, expect_walks, for_walks, fork_walks, if_walks, repeat_walks, return_walks, step_walks, void_walks, while_walks}
-use Rattle.vera_names.proofs.Items.{each_stops, each_goes, each_ends}
+use Rattle.vera_names.proofs.Items.{each_ends}
+use Rattle.vera_steps.proofs.Carried.{carried_stops, carried_goes}
 use Rattle.vera_types.proofs.statements.+walk.Goals as goal
 
-pub walk_stmts-returns-in_err-walk_stmt : goal.walk_stmts-returns-in_err-walk_stmt
-walk_stmts-returns-in_err-walk_stmt t c =
-    let h : Answers (each (walk_stmt c.args.sight.now) c.args.stmts.now) (Err c.in_err-walk_stmt.field-0.0) = each_stops (walk_stmt c.args.sight.now) c.args.stmts.now c.loop-stmt.stmt-index c.stmt-item.result c.loop-stmt.typed _ _ c.loop-stmt-test.true c.stmt-item.is c.in_err-walk_stmt.ensures c.loop-stmt.invariant in
+pub walk_stmts-returns-in_err-before : goal.walk_stmts-returns-in_err-before
+walk_stmts-returns-in_err-before t c =
+    let h : Answers (each (walk_stmt c.args.sight.now) c.args.stmts.now) (Err c.in_err-before.field-0.0) = carried_stops (walk_stmt c.args.sight.now) c.args.stmts.now c.loop-stmt.stmt-index c.stmt-item.result _ c.loop-stmt.typed _ _ c.loop-stmt-test.true c.stmt-item.is c.walk_stmt.ensures c.in_err-before.ensures.refused c.loop-stmt.invariant in
     search rules
 
 pub walk_stmts-loop-stmt-preserved : goal.walk_stmts-loop-stmt-preserved
 walk_stmts-loop-stmt-preserved t c =
-    each_goes (walk_stmt c.args.sight.now) c.args.stmts.now c.loop-stmt.stmt-index c.stmt-item.result c.in_ok-walk_stmt.field-0 c.loop-stmt.typed c.push.new.self _ c.loop-stmt-test.true c.stmt-item.is c.in_ok-walk_stmt.ensures c.in_ok-push.ensures.ok c.loop-stmt.invariant
+    carried_goes (walk_stmt c.args.sight.now) c.args.stmts.now c.loop-stmt.stmt-index c.stmt-item.result _ _ c.loop-stmt.typed _ _ _ c.loop-stmt-test.true c.stmt-item.is c.walk_stmt.ensures c.in_ok-before.ensures.second c.in_ok-before.ensures.first c.in_ok-typed.ensures c.loop-stmt.invariant
 
 pub walk_stmts-returns : goal.walk_stmts-returns
 walk_stmts-returns t c = each_ends _ _ _ _ _ c.loop-stmt-test.false c.loop-stmt.invariant
 
-pub walk_arms-returns-in_err-walk_arm : goal.walk_arms-returns-in_err-walk_arm
-walk_arms-returns-in_err-walk_arm t c =
-    let h : Answers (each (arm c.args.sight.now) c.args.arms.now) (Err c.in_err-walk_arm.field-0.0) = each_stops (arm c.args.sight.now) c.args.arms.now c.loop-arm.arm-index c.arm-item.result c.loop-arm.typed _ _ c.loop-arm-test.true c.arm-item.is c.in_err-walk_arm.ensures c.loop-arm.invariant in
+pub walk_arms-returns-in_err-before : goal.walk_arms-returns-in_err-before
+walk_arms-returns-in_err-before t c =
+    let h : Answers (each (arm c.args.sight.now) c.args.arms.now) (Err c.in_err-before.field-0.0) = carried_stops (arm c.args.sight.now) c.args.arms.now c.loop-arm.arm-index c.arm-item.result _ c.loop-arm.typed _ _ c.loop-arm-test.true c.arm-item.is c.walk_arm.ensures c.in_err-before.ensures.refused c.loop-arm.invariant in
     search rules
 
 pub walk_arms-loop-arm-preserved : goal.walk_arms-loop-arm-preserved
 walk_arms-loop-arm-preserved t c =
-    each_goes (arm c.args.sight.now) c.args.arms.now c.loop-arm.arm-index c.arm-item.result c.in_ok-walk_arm.field-0 c.loop-arm.typed c.push.new.self _ c.loop-arm-test.true c.arm-item.is c.in_ok-walk_arm.ensures c.in_ok-push.ensures.ok c.loop-arm.invariant
+    carried_goes (arm c.args.sight.now) c.args.arms.now c.loop-arm.arm-index c.arm-item.result _ _ c.loop-arm.typed _ _ _ c.loop-arm-test.true c.arm-item.is c.walk_arm.ensures c.in_ok-before.ensures.second c.in_ok-before.ensures.first c.in_ok-typed.ensures c.loop-arm.invariant
 
 pub walk_arms-returns : goal.walk_arms-returns
 walk_arms-returns t c = each_ends _ _ _ _ _ c.loop-arm-test.false c.loop-arm.invariant
