@@ -70,7 +70,7 @@ module _ (Tall : Heights) (limit d : ℕ) (fits : (h : ℕ) → Tall.tall h → 
   second_delay = bind _ _ d (token.word d fits code.COMMA refl) (λ t. delay) refl refl
 
   change : Law kind_of Tall limit d false true first_change clash_expr [] (r.change pe) (λ h. g.change (le h) d)
-  unfolding r.change g.change
+  unfolding r.change r.assigned r.added r.subtracted r.counted g.change
   change = grow clash_expr [] refl refl (
       choose (code.EQUALS ∷ []) _ _ d (bind _ _ d (token.word d fits code.EQUALS refl) (λ t. bind _ _ d E (λ y. leaf.pure _ d) refl refl) refl refl)
       (choose (code.PLUS_EQUALS ∷ []) _ _ d (bind _ _ d (token.word d fits code.PLUS_EQUALS refl) (λ t. bind _ _ d E (λ y. leaf.pure _ d) refl refl) refl refl)

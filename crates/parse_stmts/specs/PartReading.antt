@@ -46,6 +46,9 @@ edge = do
 unfoldable pub plain_delay : Parser Token Delay
 plain_delay = either (code.NUMBER ∷ []) (do n ← number; pure (record { line = n.line; form = Number n.number })) (do n ← name; pure (record { line = n.line; form = Name n.text }))
 
+unfoldable pub counted : Parser Token Change
+counted = either (code.PLUS_PLUS ∷ []) (do word code.PLUS_PLUS; pure Increment) (do word code.MINUS_MINUS; pure Decrement)
+
 module _ (expr : Parser Token Expr) where
   unfoldable pub delay_rest : ℕ → Parser Token Delay
   delay_rest line = do
@@ -59,12 +62,20 @@ module _ (expr : Parser Token Expr) where
   unfoldable pub second_delay : Parser Token Delay
   second_delay = do word code.COMMA; delay
 
+  unfoldable pub assigned : Parser Token Change
+  assigned = do word code.EQUALS; y ← expr; pure (Assign y)
+
+  unfoldable pub added : Parser Token Change
+  added = do word code.PLUS_EQUALS; y ← expr; pure (Add y)
+
+  unfoldable pub subtracted : Parser Token Change
+  subtracted = do word code.MINUS_EQUALS; y ← expr; pure (Subtract y)
+
   unfoldable pub change : Parser Token Change
-  change = either (code.EQUALS ∷ []) (do word code.EQUALS; y ← expr; pure (Assign y))
-      (either (code.PLUS_EQUALS ∷ []) (do word code.PLUS_EQUALS; y ← expr; pure (Add y))
-      (either (code.MINUS_EQUALS ∷ []) (do word code.MINUS_EQUALS; y ← expr; pure (Subtract y))
-      (either (code.PLUS_PLUS ∷ []) (do word code.PLUS_PLUS; pure Increment)
-      (do word code.MINUS_MINUS; pure Decrement))))
+  change = either (code.EQUALS ∷ []) assigned
+      (either (code.PLUS_EQUALS ∷ []) added
+      (either (code.MINUS_EQUALS ∷ []) subtracted
+      counted))
 
   unfoldable pub changed : Postfix → Parser Token Step
   changed x = do

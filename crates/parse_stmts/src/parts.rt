@@ -134,29 +134,60 @@ pub fn second_delay(alloc: Global, tokens: &mut Cursor<'_>, depth: usize) -> Res
     delay(alloc, tokens, depth)
 }
 
-/// `( "=" | "+=" | "-=" ) expr | "++" | "--"`.
-#[tactic(auto, unfolding(crate::specs::PartReading::change, grammar_laws::specs::Readers::and_then, grammar_laws::specs::Readers::either))]
-fn change(alloc: Global, tokens: &mut Cursor<'_>, depth: usize) -> Result<Change, Fault>
-    ensures { Reads (reading.change (expressions.expr depth) tokens.old.rest.now) result tokens.new.rest.now }
+/// `"=" expr`.
+#[tactic(auto, unfolding(crate::specs::PartReading::assigned, grammar_laws::specs::Readers::and_then))]
+fn assigned(alloc: Global, tokens: &mut Cursor<'_>, depth: usize) -> Result<Change, Fault>
+    ensures { Reads (reading.assigned (expressions.expr depth) tokens.old.rest.now) result tokens.new.rest.now }
 {
-    if tokens.begins(&[EQUALS]) {
-        tokens.word(EQUALS)?;
-        return Ok(Change::Assign(expr(alloc, tokens, depth)?));
-    }
-    if tokens.begins(&[PLUS_EQUALS]) {
-        tokens.word(PLUS_EQUALS)?;
-        return Ok(Change::Add(expr(alloc, tokens, depth)?));
-    }
-    if tokens.begins(&[MINUS_EQUALS]) {
-        tokens.word(MINUS_EQUALS)?;
-        return Ok(Change::Subtract(expr(alloc, tokens, depth)?));
-    }
+    tokens.word(EQUALS)?;
+    Ok(Change::Assign(expr(alloc, tokens, depth)?))
+}
+
+/// `"+=" expr`.
+#[tactic(auto, unfolding(crate::specs::PartReading::added, grammar_laws::specs::Readers::and_then))]
+fn added(alloc: Global, tokens: &mut Cursor<'_>, depth: usize) -> Result<Change, Fault>
+    ensures { Reads (reading.added (expressions.expr depth) tokens.old.rest.now) result tokens.new.rest.now }
+{
+    tokens.word(PLUS_EQUALS)?;
+    Ok(Change::Add(expr(alloc, tokens, depth)?))
+}
+
+/// `"-=" expr`.
+#[tactic(auto, unfolding(crate::specs::PartReading::subtracted, grammar_laws::specs::Readers::and_then))]
+fn subtracted(alloc: Global, tokens: &mut Cursor<'_>, depth: usize) -> Result<Change, Fault>
+    ensures { Reads (reading.subtracted (expressions.expr depth) tokens.old.rest.now) result tokens.new.rest.now }
+{
+    tokens.word(MINUS_EQUALS)?;
+    Ok(Change::Subtract(expr(alloc, tokens, depth)?))
+}
+
+/// `"++" | "--"`.
+#[tactic(auto, unfolding(crate::specs::PartReading::counted, grammar_laws::specs::Readers::and_then, grammar_laws::specs::Readers::either))]
+fn counted(tokens: &mut Cursor<'_>) -> Result<Change, Fault>
+    ensures { Reads (reading.counted tokens.old.rest.now) result tokens.new.rest.now }
+{
     if tokens.begins(&[PLUS_PLUS]) {
         tokens.word(PLUS_PLUS)?;
         return Ok(Change::Increment);
     }
     tokens.word(MINUS_MINUS)?;
     Ok(Change::Decrement)
+}
+
+/// `( "=" | "+=" | "-=" ) expr | "++" | "--"`.
+#[tactic(auto, unfolding(crate::specs::PartReading::change, grammar_laws::specs::Readers::either))]
+fn change(alloc: Global, tokens: &mut Cursor<'_>, depth: usize) -> Result<Change, Fault>
+    ensures { Reads (reading.change (expressions.expr depth) tokens.old.rest.now) result tokens.new.rest.now }
+{
+    if tokens.begins(&[EQUALS]) {
+        assigned(alloc, tokens, depth)
+    } else if tokens.begins(&[PLUS_EQUALS]) {
+        added(alloc, tokens, depth)
+    } else if tokens.begins(&[MINUS_EQUALS]) {
+        subtracted(alloc, tokens, depth)
+    } else {
+        counted(tokens)
+    }
 }
 
 /// A change of this target.

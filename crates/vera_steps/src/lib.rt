@@ -3,6 +3,7 @@
 
 pub mod assignments;
 pub mod drives;
+pub mod labels;
 pub mod sides;
 pub mod targets;
 pub mod waits;

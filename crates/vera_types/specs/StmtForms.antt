@@ -19,9 +19,6 @@ use Rattle.vera_types.specs.declared.blocks.Owner.TheVariants as owner
 use Rattle.vera_ast.specs.declared.typed.names.VariablePlace.{VariablePlace}
 use Rattle.vera_ast.specs.declared.typed.names.VariablePlace.TheVariants as place
 use Rattle.typing_rules.specs.declared.context.Context.{Context}
-use Rattle.typing_rules.specs.declared.head.Typed.{Typed}
-use Rattle.typing_rules.specs.Types.{is_vector}
-use Rattle.vera_ast.specs.declared.typed.expr.TypedExpr.{TypedExpr}
 
 -- ---- variables
 
@@ -31,10 +28,6 @@ place_at owner.Program n = place.Program n
 place_at owner.Body n = place.Local n
 
 -- ---- statements
-
--- a value that has to be a vector
-abbrev pub label : ℕ → Typed → Checked TypedExpr
-label line v = keeps line ((wrong_type, not (is_vector v.of)) ∷ []) >> Ok v.expr
 
 -- a statement that stands in a loop alone
 abbrev pub in_loop_only : Context → ℕ → TypedStmt → Checked TypedStmt

@@ -5,22 +5,20 @@ ghost use Rattle.vera_ast.specs.declared.tree.statements.Stmt.TheVariants as vie
 ghost use Rattle.vera_ast.specs.declared.typed.stmt.TypedStmt.TheVariants as typed;
 ghost use Rattle.typing_rules.specs.Answers.{Answers};
 ghost use Rattle.typing_rules.specs.Assignments as assignments;
+ghost use Rattle.typing_rules.specs.Blocks as blocks;
 ghost use Rattle.typing_rules.specs.Bodies as bodies;
 ghost use Rattle.typing_rules.specs.Checked as checked;
-ghost use Rattle.typing_rules.specs.Expressions as expressions;
 ghost use Rattle.typing_rules.specs.Statements as spec;
 ghost use Rattle.vera_types.specs.StmtForms as lists;
 
 use crate::blocks::{PlacedDecl, local_decls, number_behind, scope_of, typed_decls};
-use four_state::List;
 use sqlite_items::{Boxed, Items};
 use std::alloc::Global;
 use typing_rules::head::{Head, Stand, Typed};
 use vera_ast::{
-    Arm, ArmLabel, Block, Expr, For, Fork, FrontError, If, Postfix, Repeat, Step, Stmt, TypedArm,
-    TypedArmLabel, TypedBlock, TypedBuiltIn, TypedExpr, TypedFor, TypedFork, TypedIf, TypedPrintf,
-    TypedRepeat, TypedSprintf, TypedStmt, TypedTaskCall, TypedVoid, TypedWait, TypedWhile, Void,
-    While, with,
+    Arm, Block, Expr, For, Fork, FrontError, If, Postfix, Repeat, Step, Stmt, TypedArm, TypedBlock,
+    TypedBuiltIn, TypedExpr, TypedFor, TypedFork, TypedIf, TypedPrintf, TypedRepeat, TypedSprintf,
+    TypedStmt, TypedTaskCall, TypedVoid, TypedWait, TypedWhile, Void, While, with,
 };
 use vera_calls::calls::is_function;
 use vera_exprs::expressions::{expr, walk_post};
@@ -30,8 +28,9 @@ use vera_names::rules::{answered, keeps};
 use vera_names::scope::{Scope, Scopes};
 use vera_steps::assignments::step;
 use vera_steps::drives::drive_stmt;
+use vera_steps::labels::arm_label;
 use vera_steps::waits::{edge_stmt, expect_stmt};
-use vera_values::lists::{items_with, list_with};
+use vera_values::lists::items_with;
 use vera_values::sight::Sight;
 use vera_values::values::value_of;
 
@@ -99,59 +98,6 @@ fn void_stmt(alloc: Global, sight: &Sight<'_>, void: &Void) -> Result<TypedStmt,
 {
     let head = walk_post(alloc, sight, Stand::Dropped, &void.value)?;
     alone(alloc, void.line, void.value.line, head)
-}
-
-fn exprs(alloc: Global, sight: &Sight<'_>, values: &[Expr]) -> Result<List<Typed>, FrontError>
-    ensures { Answers (checked.each (expressions.expr sight.now) values.now) result }
-{
-    let mut typed = List::empty(alloc);
-    for value in values {
-        let (before, next) = with(typed, expr(alloc, sight, value))?;
-        typed = list_with(before, next)?;
-    }
-    Ok(typed)
-}
-
-/// A value that has to be a vector.
-#[tactic(auto, unfolding(vera_names::proofs::StepsOpened::rules))]
-fn label(line: u32, value: Typed) -> Result<TypedExpr, FrontError>
-    ensures { Answers (lists.label line value) result }
-{
-    let Typed { expr: value, of } = value;
-    let kept = answered(keeps(line, &[(WRONG_TYPE, !is_vector(of))]));
-    let (value, ()) = with(value, kept)?;
-    Ok(value)
-}
-
-/// Values that have to be vectors.
-fn labels(alloc: Global, line: u32, values: List<Typed>) -> Result<List<TypedExpr>, FrontError>
-    ensures { Answers (checked.each (lists.label line) values) result }
-{
-    let mut typed = List::empty(alloc);
-    for value in values.into_vec() {
-        let (before, next) = with(typed, label(line, value))?;
-        typed = list_with(before, next)?;
-    }
-    Ok(typed)
-}
-
-/// `expr { "," expr } | "default"`.
-#[tactic(auto, unfolding(vera_names::proofs::StepsOpened::rules))]
-fn arm_label(
-    alloc: Global,
-    sight: &Sight<'_>,
-    line: u32,
-    found: &ArmLabel,
-) -> Result<TypedArmLabel, FrontError>
-    ensures { Answers (spec.arm_label sight.now line found.now) result }
-{
-    match found {
-        ArmLabel::Values(values) => {
-            let all = exprs(alloc, sight, values.as_slice())?;
-            Ok(TypedArmLabel::Values(labels(alloc, line, all)?))
-        }
-        ArmLabel::Default => Ok(TypedArmLabel::Default),
-    }
 }
 
 #[tactic(auto, unfolding(vera_names::proofs::StepsOpened::rules))]
@@ -283,16 +229,30 @@ fn block_among<'a>(
     block_in(alloc, &*sight, &scopes, slots, variables, block)
 }
 
+/// A block whose variables are these, which nothing sees yet.
+#[tactic(auto, unfolding(vera_names::proofs::StepsOpened::rules, typing_rules::specs::Blocks::inside))]
+#[cycle(walk)]
+fn block_of(
+    alloc: Global,
+    sight: &Sight<'_>,
+    variables: &[PlacedDecl<'_>],
+    block: &Block,
+) -> Result<TypedBlock, FrontError>
+    ensures { Answers (bodies.block_with (blocks.inside sight.now variables.now) variables.now block.now) result }
+{
+    let scope = scope_of(alloc, variables)?;
+    let slots = number_behind(sight.slots(), scope.len())?;
+    block_among(alloc, &*sight, &scope, slots, variables, block)
+}
+
 /// `block = "{" { decl } { stmt } "}"`.
-#[tactic(auto, unfolding(vera_names::proofs::StepsOpened::rules, typing_rules::specs::Bodies::block, typing_rules::specs::Blocks::inside))]
+#[tactic(auto, unfolding(vera_names::proofs::StepsOpened::rules, typing_rules::specs::Bodies::block))]
 #[cycle(walk)]
 pub fn block(alloc: Global, sight: &Sight<'_>, block: &Block) -> Result<TypedBlock, FrontError>
     ensures { Answers (bodies.block sight.now block.now) result }
 {
     let variables = local_decls(alloc, sight, block.decls.as_slice())?;
-    let scope = scope_of(alloc, variables.as_slice())?;
-    let slots = number_behind(sight.slots(), scope.len())?;
-    block_among(alloc, &*sight, &scope, slots, variables.as_slice(), block)
+    block_of(alloc, &*sight, variables.as_slice(), block)
 }
 
 /// `"if" "(" expr ")" stmt [ "else" stmt ]`.

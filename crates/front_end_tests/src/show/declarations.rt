@@ -74,12 +74,10 @@ pub fn maybe_range(out: &mut Out, bounds: &Option<Range>) -> Result<(), NoMemory
 /// `(5:var 6:integer a, 9:integer b)`.
 pub fn parameters(out: &mut Out, nodes: &[Parameter]) -> Result<(), NoMemory> {
     out.put(b"(")?;
-    let mut is_first = true;
-    for node in nodes {
-        if !is_first {
+    for (at, node) in nodes.iter().enumerate() {
+        if at > 0 {
             out.put(b", ")?;
         }
-        is_first = false;
         out.line(node.line)?;
         out.put(if node.is_var { b"var " } else { b"" })?;
         data_type(out, &node.of)?;

@@ -166,12 +166,10 @@ fn primary(out: &mut Out, node: &Primary) -> Result<(), NoMemory> {
 /// Expressions with commas between them.
 #[cycle(show_expr)]
 pub fn exprs(out: &mut Out, nodes: &[Expr]) -> Result<(), NoMemory> {
-    let mut is_first = true;
-    for node in nodes {
-        if !is_first {
+    for (at, node) in nodes.iter().enumerate() {
+        if at > 0 {
             out.put(b", ")?;
         }
-        is_first = false;
         expr(out, node)?;
     }
     Ok(())
@@ -179,11 +177,9 @@ pub fn exprs(out: &mut Out, nodes: &[Expr]) -> Result<(), NoMemory> {
 
 /// An `integer` in decimal, and any other literal as `'` and its bits, the highest first.
 pub fn number(out: &mut Out, value: &Number) -> Result<(), NoMemory> {
-    let text = if value.is_decimal {
-        value.value.to_decimal_text(out.alloc, false)?
-    } else {
-        out.put(b"'")?;
-        value.value.to_binary_text(out.alloc)?
-    };
-    out.name(&text)
+    if value.is_decimal {
+        return out.name(&value.value.to_decimal_text(out.alloc, false)?);
+    }
+    out.put(b"'")?;
+    out.name(&value.value.to_binary_text(out.alloc)?)
 }

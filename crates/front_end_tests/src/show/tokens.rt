@@ -6,12 +6,10 @@ use vera_ast::{Token, TokenKind, code};
 
 /// `1:59 integer, 1:48 a, 2:6` are two words and a sign.
 pub fn token_list(out: &mut Out, tokens: &[Token]) -> Result<(), NoMemory> {
-    let mut is_first = true;
-    for item in tokens {
-        if !is_first {
+    for (at, item) in tokens.iter().enumerate() {
+        if at > 0 {
             out.put(b", ")?;
         }
-        is_first = false;
         token(out, item)?;
     }
     out.put(b"\n")

@@ -3,10 +3,10 @@ use Rattle.std.specs.Prelude.{Err}
 use Rattle.std.specs.Vec.Iter.{into_iter_items}
 use Rattle.typing_rules.specs.Answers.{Answers}
 use Rattle.typing_rules.specs.Checked.{each}
-use Rattle.vera_types.specs.StmtForms.{label}
+use Rattle.vera_steps.specs.SimpleForms.{label}
 use Rattle.vera_names.proofs.Items.{taken_ends}
 use Rattle.vera_steps.proofs.Carried.{carried_stops_taken, carried_goes_taken}
-use Rattle.vera_types.proofs.statements.labels.Goals as goal
+use Rattle.vera_steps.proofs.labels.labels.Goals as goal
 
 pub returns-in_err-before : goal.returns-in_err-before
 returns-in_err-before c =

@@ -5,7 +5,7 @@ use Rattle.typing_rules.specs.Checked.{each}
 use Rattle.typing_rules.specs.Expressions.{expr}
 use Rattle.vera_names.proofs.Items.{each_ends}
 use Rattle.vera_steps.proofs.Carried.{carried_stops, carried_goes}
-use Rattle.vera_types.proofs.statements.exprs.Goals as goal
+use Rattle.vera_steps.proofs.labels.exprs.Goals as goal
 
 pub returns-in_err-before : goal.returns-in_err-before
 returns-in_err-before c =
